@@ -1,0 +1,9 @@
+pub mod Tests
+pub mod Parts
+pub mod Within
+pub mod Ring
+pub mod Signed
+pub mod Round
+pub mod Lists
+pub mod Loops
+pub mod Steps

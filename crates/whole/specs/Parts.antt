@@ -1,0 +1,11 @@
+-- The positive and the negative part of a whole number: z = P z − N z, and one of the two is 0.
+use Prim.Native.Nat.{ℕ, suc}
+use lib.IntN.{ℤ, pos, negsuc}
+
+abbrev pub P : ℤ → ℕ
+P (pos a) = a
+P (negsuc a) = 0
+
+abbrev pub N : ℤ → ℕ
+N (pos a) = 0
+N (negsuc a) = suc a
