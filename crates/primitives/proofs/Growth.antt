@@ -1,0 +1,1 @@
+-- How much each rotation grows.

@@ -1,0 +1,2 @@
+pub mod Cosine
+pub mod Growth

@@ -1,0 +1,3 @@
+pub mod Cosine
+pub mod Brev
+pub mod Rotations
