@@ -1,0 +1,34 @@
+-- The tests that refuse, as far as several calls share them.
+use mathlib.Core.Bool.{Bool, not, _&&_, _||_}
+use mathlib.Core.List.{List}
+use Prim.Native.Nat.{ℕ}
+use lib.Dec.{ltb, eqb}
+use lib.IntN.{ℤ, pos, natAbs}
+use lib.ListN.{getD}
+use lib.Signed.{ltZ}
+use Rattle.whole.specs.Tests.{anyBelow}
+use Rattle.answers.specs.Limits.{isDepth, QUANT_LIMIT}
+
+-- 1: the depth is not 8, 10 or 12
+unfoldable pub badDepth : ℕ → Bool
+badDepth depth = not (isDepth depth)
+
+-- 2: the size number is above 3
+abbrev pub badSize : ℕ → Bool
+badSize size = ltb 3 size
+
+-- 3: lossless with a size other than 4 by 4
+unfoldable pub badLossless : Bool → ℕ → Bool
+badLossless lossless size = lossless && not (eqb size 0)
+
+-- 4: not lossless, and a type above 3, or 32 by 32 with a type other than 0
+unfoldable pub badKind : Bool → ℕ → ℕ → Bool
+badKind lossless size kind = not lossless && (ltb 3 kind || (eqb size 3 && not (eqb kind 0)))
+
+-- 5: a quantizer outside 1 to 32,767
+unfoldable pub badQuantizer : ℤ → Bool
+badQuantizer q = ltZ q (pos 1) || ltZ (pos QUANT_LIMIT) q
+
+-- 8 and 9: of the first n numbers, some magnitude is above m
+unfoldable pub anyBeyond : ℕ → ℕ → List ℤ → Bool
+anyBeyond m n l = anyBelow (λ k. ltb m (natAbs (getD l k (pos 0)))) n

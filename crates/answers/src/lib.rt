@@ -1,0 +1,141 @@
+ghost use mathlib.Core.Path.{_≡_};
+ghost use Prim.Native.Nat.{_≤_};
+ghost use lib.IntN.{natAbs};
+ghost use lib.ListN.{length};
+ghost use Rattle.answers.specs.Answers.{number};
+ghost use Rattle.answers.specs.Bad.{badDepth, badSize, badLossless, badKind, anyBeyond};
+
+// The answers of all calls and of the VBK reader.
+pub enum Answer {
+    Done,
+    Depth,
+    Size,
+    LosslessSize,
+    Kind,
+    Quantizer,
+    Length,
+    Plane,
+    Token,
+    Coefficient,
+    Mark,
+    Version,
+    CutShort,
+    TooLarge,
+    LosslessByte,
+}
+
+// Magnitude of dequantized values, of the 2D driver's input and of the quantizer's.
+pub const COEF_LIMIT: u64 = 134217728;
+
+// Magnitude of the forward WHT's input.
+pub const WHT_LIMIT: u64 = 8388608;
+
+// A quantizer is 1 to this.
+pub const QUANT_LIMIT: i32 = 32767;
+
+// Width and height of a plane.
+pub const SIDE_LIMIT: usize = 65535;
+
+// Bytes of a VBK file.
+pub const FILE_LIMIT: usize = 65535;
+
+// Width times height of a VBK file's plane.
+pub const AREA_LIMIT: usize = 4096;
+
+// Numbers that the quantizer takes.
+pub const LIST_LIMIT: usize = 1024;
+
+// The answer's number.
+pub fn code(a: Answer) -> u32
+    ensures { λ r. ⌜ r ≡ number a ⌝ }
+{
+    match a {
+        Answer::Done => 0,
+        Answer::Depth => 1,
+        Answer::Size => 2,
+        Answer::LosslessSize => 3,
+        Answer::Kind => 4,
+        Answer::Quantizer => 5,
+        Answer::Length => 6,
+        Answer::Plane => 7,
+        Answer::Token => 8,
+        Answer::Coefficient => 9,
+        Answer::Mark => 10,
+        Answer::Version => 11,
+        Answer::CutShort => 12,
+        Answer::TooLarge => 13,
+        Answer::LosslessByte => 14,
+    }
+}
+
+// The magnitude, of the least i64 too.
+pub fn magnitude(t: i64) -> u64
+    ensures { λ r. ⌜ r ≡ natAbs t ⌝ }
+{
+    if t < 0 {
+        let u = -(t + 1);
+        return u as u64 + 1;
+    }
+    t as u64
+}
+
+// The depth is not 8, 10 or 12.
+pub fn bad_depth(depth: u32) -> bool
+    ensures { λ r. ⌜ r ≡ badDepth depth ⌝ }
+{
+    match depth {
+        8 => false,
+        10 => false,
+        12 => false,
+        _ => true,
+    }
+}
+
+// The size number is above 3.
+pub fn bad_size(size: u32) -> bool
+    ensures { λ r. ⌜ r ≡ badSize size ⌝ }
+{
+    3 < size
+}
+
+// Lossless with a size other than 4 by 4.
+pub fn bad_lossless(lossless: bool, size: u32) -> bool
+    ensures { λ r. ⌜ r ≡ badLossless lossless size ⌝ }
+{
+    if lossless {
+        return size != 0;
+    }
+    false
+}
+
+// Not lossless, and a type above 3, or 32 by 32 with a type other than 0.
+pub fn bad_kind(lossless: bool, size: u32, kind: u8) -> bool
+    ensures { λ r. ⌜ r ≡ badKind lossless size kind ⌝ }
+{
+    if lossless {
+        return false;
+    }
+    if 3 < kind {
+        return true;
+    }
+    if size == 3 {
+        return kind != 0;
+    }
+    false
+}
+
+// Of the first `count` numbers, some magnitude is above `most`.
+pub fn any_beyond(list: &[i64], count: usize, most: u64) -> bool
+    requires { ⌜ count ≤ length (now list) ⌝ }
+    ensures { λ r. ⌜ r ≡ anyBeyond most count (now (list .entry)) ⌝ }
+{
+    let mut i = 0;
+    while i < count {
+        let t = list[i];
+        if most < magnitude(t) {
+            return true;
+        }
+        i += 1;
+    }
+    false
+}
