@@ -5,17 +5,17 @@ use Prim.Native.Nat.{ℕ, zero, suc, _+_, _-_, _*_, _/_, _%_, _≤_, _<_}
 use native.Mathlib.Decide.{decLt}
 use native.Mathlib.Nat as NatL
 use native.Mathlib.Omega.{arith}
-use lib.Dec.{T, leb, eqb}
-use lib.IntN.{ℤ, pos, negsuc, negℤ, natAbs, _+ℤ_, _-ℤ_}
+use lib.Dec.{T, leb, eqb, eqb→eq}
+use lib.IntN.{ℤ, pos, negsuc, negℤ, _+ℤ_, _-ℤ_}
 use lib.ListN.{getD}
-use borrow.Author.Tests.{le-leb, lt-leb, lt-ltb, le-ltb}
+use borrow.Author.Tests.{le-leb, lt-leb, lt-ltb, le-ltb, eq-eqb, ne-eqb}
 use Rattle.whole.specs.Parts.{P, N}
 use Rattle.whole.specs.Within.{Within}
 use Rattle.whole.specs.Tests.{both, allBelow}
-use Rattle.whole.proofs.Parts.{sum-parts}
-use Rattle.whole.proofs.Tests.{below}
+use Rattle.whole.proofs.Parts.{sum-parts, eq-parts, neg-P, neg-N}
+use Rattle.whole.proofs.Tests.{below, b₁, b₂}
 use Rattle.whole.proofs.Within.{within-neg, within-cond, table-within}
-use Rattle.primitives.specs.Cosine.{cos64_lookup, modulo, cosAt, Cos64, Sin64, wrap32}
+use Rattle.primitives.specs.Cosine.{cos64Lookup, modulo, cosAt, Cos64, Sin64, wrap32}
 
 -- ---- the remainder
 -- z is its remainder and a multiple of m, which is qP m z − qN m z
@@ -76,19 +76,19 @@ modulo-wrap (pos a) = wrap-split (a % 4294967296) (omega arith) ∙ omega arith
 modulo-wrap (negsuc a) = wrap-split (4294967295 - a % 4294967296) (omega arith) ∙ omega arith
 
 -- ---- the waves
-pub cos-1 : (a : ℕ) → a ≤ 32 → cosAt a ≡ getD cos64_lookup a (pos 0)
+pub cos-1 : (a : ℕ) → a ≤ 32 → cosAt a ≡ getD cos64Lookup a (pos 0)
 unfolding cosAt
 cos-1 a h = simp (le-leb a 32 h)
 
-pub cos-2 : (a : ℕ) → 32 < a → a ≤ 64 → cosAt a ≡ negℤ (getD cos64_lookup (64 - a) (pos 0))
+pub cos-2 : (a : ℕ) → 32 < a → a ≤ 64 → cosAt a ≡ negℤ (getD cos64Lookup (64 - a) (pos 0))
 unfolding cosAt
 cos-2 a g h = simp (lt-leb a 32 g, le-leb a 64 h)
 
-pub cos-3 : (a : ℕ) → 64 < a → a ≤ 96 → cosAt a ≡ negℤ (getD cos64_lookup (a - 64) (pos 0))
+pub cos-3 : (a : ℕ) → 64 < a → a ≤ 96 → cosAt a ≡ negℤ (getD cos64Lookup (a - 64) (pos 0))
 unfolding cosAt
 cos-3 a g h = simp (lt-leb a 32 (omega arith), lt-leb a 64 g, le-leb a 96 h)
 
-pub cos-4 : (a : ℕ) → 96 < a → cosAt a ≡ getD cos64_lookup (128 - a) (pos 0)
+pub cos-4 : (a : ℕ) → 96 < a → cosAt a ≡ getD cos64Lookup (128 - a) (pos 0)
 unfolding cosAt
 cos-4 a g = simp (lt-leb a 32 (omega arith), lt-leb a 64 (omega arith), lt-leb a 96 g)
 
@@ -99,9 +99,9 @@ cos-is z a e = ap cosAt (sym e)
 pub cosAt-within : (a : ℕ) → Within 16384 (cosAt a)
 unfolding cosAt
 cosAt-within a =
-    within-cond (leb a 32) (table-within 16384 cos64_lookup tt a)
-    (within-cond (leb a 64) (within-neg (table-within 16384 cos64_lookup tt (64 - a)))
-    (within-cond (leb a 96) (within-neg (table-within 16384 cos64_lookup tt (a - 64))) (table-within 16384 cos64_lookup tt (128 - a))))
+    within-cond (leb a 32) (table-within 16384 cos64Lookup tt a)
+    (within-cond (leb a 64) (within-neg (table-within 16384 cos64Lookup tt (64 - a)))
+    (within-cond (leb a 96) (within-neg (table-within 16384 cos64Lookup tt (a - 64))) (table-within 16384 cos64Lookup tt (128 - a))))
 
 pub cos-within : (g : ℤ) → Within 16384 (Cos64 g)
 unfolding Cos64
@@ -135,3 +135,26 @@ quarterAt a = cond (eqb (a % 32) 16) (cond (eqb (a / 32 % 2) 0) (sameAt a) (mirr
 quarters : T (allBelow 128 quarterAt)
 unfolding quarterAt sameAt mirrorAt cosAt
 quarters = tt
+
+-- two numbers with the same parts, or with the parts exchanged
+parts-same : (y z : ℤ) → T (both (eqb (P y) (P z)) (eqb (N y) (N z))) → y ≡ z
+parts-same y z t =
+    eq-parts y z (omega (arith, eqb→eq (P y) (P z) (b₁ (eqb (P y) (P z)) (eqb (N y) (N z)) t), eqb→eq (N y) (N z) (b₂ (eqb (P y) (P z)) (eqb (N y) (N z)) t)))
+
+parts-mirror : (y z : ℤ) → T (both (eqb (P y) (N z)) (eqb (N y) (P z))) → y ≡ negℤ z
+parts-mirror y z t =
+    eq-parts y (negℤ z) (omega (arith, neg-P z, neg-N z, eqb→eq (P y) (N z) (b₁ (eqb (P y) (N z)) (eqb (N y) (P z)) t), eqb→eq (N y) (P z) (b₂ (eqb (P y) (N z)) (eqb (N y) (P z)) t)))
+
+module _ (g : ℤ) (a : ℕ) (e : a ≡ modulo 128 g) (h : a % 32 ≡ 16) where
+  quarter : T (quarterAt a)
+  quarter = below 128 quarterAt quarters a (rw e (modulo-lt 128 (omega arith) g))
+
+  pub sin-even : a / 32 % 2 ≡ 0 → Sin64 g ≡ Cos64 g
+  unfolding quarterAt sameAt
+  sin-even k =
+      sin-is g a e ∙ parts-same (cosAt ((a + 96) % 128)) (cosAt a) (simp (eq-eqb (a % 32) 16 h, eq-eqb (a / 32 % 2) 0 k) at quarter) ∙ sym (cos-is g a e)
+
+  pub sin-odd : a / 32 % 2 ≡ 1 → Sin64 g ≡ negℤ (Cos64 g)
+  unfolding quarterAt mirrorAt
+  sin-odd k =
+      sin-is g a e ∙ parts-mirror (cosAt ((a + 96) % 128)) (cosAt a) (simp (eq-eqb (a % 32) 16 h, ne-eqb (a / 32 % 2) 0 (λ z. omega arith)) at quarter) ∙ ap negℤ (sym (cos-is g a e))

@@ -1,2 +1,4 @@
 pub mod Cosine
-pub mod Growth
+pub mod Reversal
+pub mod Rotations
+pub mod Out

@@ -7,8 +7,8 @@ use lib.IntN.{ℤ, pos, negsuc, negℤ, _-ℤ_}
 use lib.ListN.{getD}
 
 -- the quarter wave: entry i is round(16384 cos(i π / 64))
-abbrev pub cos64_lookup : List ℤ
-cos64_lookup =
+abbrev pub cos64Lookup : List ℤ
+cos64Lookup =
     pos 16384 ∷ pos 16364 ∷ pos 16305 ∷ pos 16207 ∷ pos 16069 ∷ pos 15893 ∷ pos 15679 ∷ pos 15426 ∷ pos 15137 ∷ pos 14811 ∷ pos 14449
     ∷ pos 14053 ∷ pos 13623 ∷ pos 13160 ∷ pos 12665 ∷ pos 12140 ∷ pos 11585 ∷ pos 11003 ∷ pos 10394 ∷ pos 9760 ∷ pos 9102 ∷ pos 8423
     ∷ pos 7723 ∷ pos 7005 ∷ pos 6270 ∷ pos 5520 ∷ pos 4756 ∷ pos 3981 ∷ pos 3196 ∷ pos 2404 ∷ pos 1606 ∷ pos 804 ∷ pos 0 ∷ []
@@ -21,9 +21,9 @@ modulo m (negsuc a) = m - 1 - a % m
 -- the whole wave, at an angle below 128
 unfoldable pub cosAt : ℕ → ℤ
 cosAt a =
-    cond (leb a 32) (getD cos64_lookup a (pos 0))
-    (cond (leb a 64) (negℤ (getD cos64_lookup (64 - a) (pos 0)))
-    (cond (leb a 96) (negℤ (getD cos64_lookup (a - 64) (pos 0))) (getD cos64_lookup (128 - a) (pos 0))))
+    cond (leb a 32) (getD cos64Lookup a (pos 0))
+    (cond (leb a 64) (negℤ (getD cos64Lookup (64 - a) (pos 0)))
+    (cond (leb a 96) (negℤ (getD cos64Lookup (a - 64) (pos 0))) (getD cos64Lookup (128 - a) (pos 0))))
 
 unfoldable pub Cos64 : ℤ → ℤ
 Cos64 angle = cosAt (modulo 128 angle)

@@ -1,4 +1,5 @@
 -- The document's B, H, SB and SH over the arrays T and S. Specification §8.7.1.1.
+use mathlib.Core.Path.{_≡_}
 use mathlib.Core.Bool.{Bool, true, false}
 use mathlib.Core.List.{List}
 use Prim.Native.Nat.{ℕ}
@@ -44,3 +45,8 @@ applySH t s a b =
     let x = getD s a (pos 0) in
     let y = getD s b (pos 0) in
     set (set t a (Round2 (x +ℤ y) 14)) b (Round2 (x -ℤ y) 14)
+
+-- x and y are the rounded values of B
+pub record Turned (p q angle x y : ℤ) : Type 0 where
+  pub x-is : x ≡ Round2 (turnX p q angle) 14
+  pub y-is : y ≡ Round2 (turnY p q angle) 14

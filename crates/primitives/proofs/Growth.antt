@@ -1,1 +1,0 @@
--- How much each rotation grows.

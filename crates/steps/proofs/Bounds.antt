@@ -1,0 +1,271 @@
+-- The range theorem: where the computed test holds, every step is fine, and the values stay within the computed bounds.
+use mathlib.Core.Path.{_≡_, refl, sym, ap, subst}
+use mathlib.Core.Bool.{Bool, true, false}
+use mathlib.Core.List.{List, [], _∷_}
+use Prim.Native.Nat.{ℕ, zero, suc, _+_, _-_, _*_, _/_, _^_, _≤_, _<_}
+use native.Mathlib.Nat as NatL
+use native.Mathlib.Omega.{arith}
+use lib.Dec.{T, leb, leb→le, ltb, ltb→lt, lit<}
+use lib.IntN.{ℤ, pos, negℤ, natAbs, _+ℤ_, _-ℤ_, _*ℤ_}
+use lib.ListN.{length, getD, set, replicate, length-replicate, getD-replicate}
+use lib.Pow.{pow-pos}
+use lib.Signed.{shrZ}
+use Rattle.whole.specs.Parts.{P, N}
+use Rattle.whole.specs.Within.{Within, EachWithin}
+use Rattle.whole.specs.Ring.{E, at, _⊕_, _⊖_, ev, pp, pn}
+use Rattle.whole.specs.Tests.{both, allBelow}
+use Rattle.whole.specs.Round.{Round2}
+use Rattle.whole.specs.Lists.{fill, move}
+use Rattle.whole.specs.Steps.{run, Ok, checks}
+use Rattle.whole.proofs.Parts.{apart, sum-parts, neg-P, neg-N, shr-low, shr-high}
+use Rattle.whole.proofs.Ring.{sound}
+use Rattle.whole.proofs.Within.{within-le, within-abs, within-parts, within-neg, within-add, within-sub, within-mul, within-shr, each-set, each-all, table-within}
+use Rattle.whole.proofs.Tests.{b₁, b₂, below}
+use Rattle.whole.proofs.Round.{round2-within}
+use Rattle.whole.proofs.Steps.{checks-sound}
+use Rattle.primitives.specs.Cosine.{Cos64, Sin64}
+use Rattle.primitives.specs.Rotations.{turnX, turnY, put, applyB, applyH, applySB, applySH}
+use Rattle.steps.specs.Step.{Step, Bf, Hd, Neg, Move, A4, Wh, step, adst4, halfway, wht4, Fine}
+use Rattle.steps.specs.Step2.{Arrays, Step2, on, SB, SH, step2, fresh, Fine2}
+use Rattle.steps.specs.Bounds.{rounded, shifted, grownX, grownY, after, place, fine, under, passes, Bounds, EachWithin2, after2, fine2, clean, passes2}
+
+-- ---- one operation
+pub within-self : (z : ℤ) → Within (natAbs z) z
+within-self z = within-abs (NatL.le-refl (natAbs z))
+
+pub within-rounded : {m : ℕ} {x : ℤ} → Within m x → Within (rounded m) (Round2 x 14)
+within-rounded b = round2-within 14 (omega arith) b
+
+pub within-shifted : (k : ℕ) {m : ℕ} {x : ℤ} → Within m x → Within (shifted k m) (shrZ x (2 ^ k))
+within-shifted k {m} {x} b =
+    let q = NatL.lt-div-mul-add {a = m + (2 ^ k - 1)} {b = 2 ^ k} (pow-pos k) in
+    within-shr (shifted k m) (2 ^ k) x (pow-pos k) (omega (arith, pow-pos k)) (omega (arith, pow-pos k))
+
+pub within-turnX : {m n : ℕ} {p q : ℤ} (g : ℤ) → Within m p → Within n q → Within (grownX m n g) (turnX p q g)
+unfolding turnX
+within-turnX g bp bq = within-sub (within-mul bp (within-self (Cos64 g))) (within-mul bq (within-self (Sin64 g)))
+
+pub within-turnY : {m n : ℕ} {p q : ℤ} (g : ℤ) → Within m p → Within n q → Within (grownY m n g) (turnY p q g)
+unfolding turnY
+within-turnY g bp bq = within-add (within-mul bp (within-self (Sin64 g))) (within-mul bq (within-self (Cos64 g)))
+
+-- ---- a place whose test holds
+record At (n m : ℕ) (bs : List ℕ) (t : List ℤ) (a : ℕ) : Type 0 where
+  room : a < n
+  low : Within m (getD t a (pos 0))
+  own : Within (getD bs a 0) (getD t a (pos 0))
+
+at-place : (n m : ℕ) (bs : List ℕ) (t : List ℤ) (a : ℕ) → T (place n m bs a) → EachWithin bs t → At n m bs t a
+at-place n m bs t a h b =
+    let r = b₂ (ltb a n) (both (ltb a (length bs)) (leb (getD bs a 0) m)) h in
+    let o = b .each a (ltb→lt a (length bs) (b₁ (ltb a (length bs)) (leb (getD bs a 0) m) r)) in
+    record {
+      room = ltb→lt a n (b₁ (ltb a n) (both (ltb a (length bs)) (leb (getD bs a 0) m)) h);
+      low = within-le (leb→le (getD bs a 0) m (b₂ (ltb a (length bs)) (leb (getD bs a 0) m) r)) o;
+      own = o;
+    }
+
+record Two (n m : ℕ) (bs : List ℕ) (t : List ℤ) (a b : ℕ) : Type 0 where
+  fst : At n m bs t a
+  snd : At n m bs t b
+
+two : (n m : ℕ) (bs : List ℕ) (t : List ℤ) (a b : ℕ) → T (both (place n m bs a) (place n m bs b)) → EachWithin bs t → Two n m bs t a b
+two n m bs t a b h k =
+    record { fst = at-place n m bs t a (b₁ (place n m bs a) (place n m bs b) h) k; snd = at-place n m bs t b (b₂ (place n m bs a) (place n m bs b) h) k }
+
+record Four (m : ℕ) (bs : List ℕ) (t : List ℤ) : Type 0 where
+  at0 : At 32 m bs t 0
+  at1 : At 32 m bs t 1
+  at2 : At 32 m bs t 2
+  at3 : At 32 m bs t 3
+
+four : (m : ℕ) (bs : List ℕ) (t : List ℤ) → T (both (both (place 32 m bs 0) (place 32 m bs 1)) (both (place 32 m bs 2) (place 32 m bs 3))) → EachWithin bs t → Four m bs t
+four m bs t h k =
+    let l = two 32 m bs t 0 1 (b₁ (both (place 32 m bs 0) (place 32 m bs 1)) (both (place 32 m bs 2) (place 32 m bs 3)) h) k in
+    let r = two 32 m bs t 2 3 (b₂ (both (place 32 m bs 0) (place 32 m bs 1)) (both (place 32 m bs 2) (place 32 m bs 3)) h) k in
+    record { at0 = l .fst; at1 = l .snd; at2 = r .fst; at3 = r .snd }
+
+-- ---- one step
+each-fill : (k : ℕ) (f : ℕ → ℕ) (bs : List ℕ) (t : List ℤ) → T (allBelow k (λ i. ltb (f i) (length bs))) → EachWithin bs t → (l : ℕ) → l ≤ k
+    → EachWithin (fill l (λ i. getD bs (f i) 0) bs) (fill l (λ i. getD t (f i) (pos 0)) t)
+unfolding fill
+each-fill k f bs t h b zero le = b
+each-fill k f bs t h b (suc l) le =
+    each-set l (each-fill k f bs t h b l (omega arith)) (b .each (f l) (ltb→lt (f l) (length bs) (below k (λ i. ltb (f i) (length bs)) h l (omega arith))))
+
+lit : (n : ℕ) → Within n (pos n)
+lit n = within-self (pos n)
+
+each-a4 : {m : ℕ} {bs : List ℕ} {t : List ℤ} → EachWithin bs t → Four m bs t → EachWithin (after A4 bs) (step A4 t)
+unfolding after step adst4
+each-a4 h f =
+    let a = f .at0 .own in
+    let b = f .at1 .own in
+    let c = f .at2 .own in
+    let d = f .at3 .own in
+    let x0 = within-add (within-add (within-mul (lit 5283) a) (within-mul (lit 15212) c)) (within-mul (lit 9929) d) in
+    let x1 = within-sub (within-sub (within-mul (lit 9929) a) (within-mul (lit 5283) c)) (within-mul (lit 15212) d) in
+    let x2 = within-mul (lit 13377) (within-add (within-sub a c) d) in
+    let x3 = within-mul (lit 13377) b in
+    each-set 3
+    (each-set 2 (each-set 1 (each-set 0 h (within-rounded (within-add x0 x3))) (within-rounded (within-add x1 x3))) (within-rounded x2))
+    (within-rounded (within-sub (within-add x0 x1) x3))
+
+-- the four results of the WHT: twice each is the sum of the four up to sign, or one more or less
+module _ {ma mc md mb : ℕ} {a c d b : ℤ} (wa : Within ma a) (wc : Within mc c) (wd : Within md d) (wb : Within mb b) where
+  abbrev h : ℕ
+  h = (ma + mc + md + mb + 1) / 2
+
+  sum : E
+  sum = (at a ⊕ at c) ⊖ (at d ⊖ at b)
+
+  wh-by : (y : E) → pp y + pp y ≤ pn y + pn y + (ma + mc + md + mb + 1) → pn y + pn y ≤ pp y + pp y + (ma + mc + md + mb + 1) → Within h (ev y)
+  wh-by y p q = within-parts h (ev y) (omega (arith, sound y)) (omega (arith, sound y))
+
+  within-wh0 : Within h ((a +ℤ c) -ℤ (halfway a c d b -ℤ b))
+  unfolding halfway sum
+  within-wh0 =
+      wh-by ((at a ⊕ at c) ⊖ (at (shrZ (ev sum) 2) ⊖ at b))
+      (omega (arith, sound sum, shr-low (ev sum) 2 (omega arith), shr-high (ev sum) 2 (omega arith)))
+      (omega (arith, sound sum, shr-low (ev sum) 2 (omega arith), shr-high (ev sum) 2 (omega arith)))
+
+  within-wh1 : Within h (halfway a c d b -ℤ b)
+  unfolding halfway sum
+  within-wh1 =
+      wh-by (at (shrZ (ev sum) 2) ⊖ at b)
+      (omega (arith, sound sum, shr-low (ev sum) 2 (omega arith), shr-high (ev sum) 2 (omega arith)))
+      (omega (arith, sound sum, shr-low (ev sum) 2 (omega arith), shr-high (ev sum) 2 (omega arith)))
+
+  within-wh2 : Within h (halfway a c d b -ℤ c)
+  unfolding halfway sum
+  within-wh2 =
+      wh-by (at (shrZ (ev sum) 2) ⊖ at c)
+      (omega (arith, sound sum, shr-low (ev sum) 2 (omega arith), shr-high (ev sum) 2 (omega arith)))
+      (omega (arith, sound sum, shr-low (ev sum) 2 (omega arith), shr-high (ev sum) 2 (omega arith)))
+
+  within-wh3 : Within h ((d -ℤ b) +ℤ (halfway a c d b -ℤ c))
+  unfolding halfway sum
+  within-wh3 =
+      wh-by ((at d ⊖ at b) ⊕ (at (shrZ (ev sum) 2) ⊖ at c))
+      (omega (arith, sound sum, shr-low (ev sum) 2 (omega arith), shr-high (ev sum) 2 (omega arith)))
+      (omega (arith, sound sum, shr-low (ev sum) 2 (omega arith), shr-high (ev sum) 2 (omega arith)))
+
+each-wh : (k : ℕ) {m : ℕ} {bs : List ℕ} {t : List ℤ} → EachWithin bs t → Four m bs t → EachWithin (after (Wh k) bs) (step (Wh k) t)
+unfolding after step wht4
+each-wh k h f =
+    let a = within-shifted k (f .at0 .own) in
+    let c = within-shifted k (f .at1 .own) in
+    let d = within-shifted k (f .at2 .own) in
+    let b = within-shifted k (f .at3 .own) in
+    each-set 3 (each-set 2 (each-set 1 (each-set 0 h (within-wh0 a c d b)) (within-wh1 a c d b)) (within-wh2 a c d b)) (within-wh3 a c d b)
+
+pub step-sound : (m : ℕ) (s : Step) (bs : List ℕ) (t : List ℤ) → T (fine m s bs) → EachWithin bs t → Fine m s t × EachWithin (after s bs) (step s t)
+unfolding after fine step applyB applyH put move
+step-sound m (Bf a b g false) bs t h k =
+    let w = two 32 m bs t a b h k in
+    let p = w .fst in
+    let q = w .snd in (
+      (p .room, q .room, p .low, q .low),
+      each-set b (each-set a k (within-rounded (within-turnX g (p .own) (q .own)))) (within-rounded (within-turnY g (p .own) (q .own))),
+    )
+step-sound m (Bf a b g true) bs t h k =
+    let w = two 32 m bs t a b h k in
+    let p = w .fst in
+    let q = w .snd in (
+      (p .room, q .room, p .low, q .low),
+      each-set b (each-set a k (within-rounded (within-turnY g (p .own) (q .own)))) (within-rounded (within-turnX g (p .own) (q .own))),
+    )
+step-sound m (Hd a b false) bs t h k =
+    let w = two 32 m bs t a b h k in
+    let p = w .fst in
+    let q = w .snd in
+    ((p .room, q .room, p .low, q .low), each-set b (each-set a k (within-add (p .own) (q .own))) (within-sub (p .own) (q .own)))
+step-sound m (Hd a b true) bs t h k =
+    let w = two 32 m bs t a b h k in
+    let p = w .fst in
+    let q = w .snd in
+    ((p .room, q .room, p .low, q .low), each-set a (each-set b k (within-add (q .own) (p .own))) (within-sub (q .own) (p .own)))
+step-sound m (Neg i) bs t h k =
+    let p = at-place 32 m bs t i h k in
+    ((p .room, p .low), each-set i k (within-neg (p .own)))
+step-sound m (Move n f) bs t h k = (
+  leb→le n 32 (b₁ (leb n 32) (allBelow n (λ i. ltb (f i) (length bs))) h),
+  each-fill n f bs t (b₂ (leb n 32) (allBelow n (λ i. ltb (f i) (length bs))) h) k n (NatL.le-refl n),
+)
+step-sound m A4 bs t h k =
+    let f = four m bs t h k in
+    ((f .at0 .low, f .at1 .low, f .at2 .low, f .at3 .low), each-a4 k f)
+step-sound m (Wh s) bs t h k =
+    let f = four m bs t h k in
+    ((f .at0 .low, f .at1 .low, f .at2 .low, f .at3 .low), each-wh s k f)
+
+-- THE range theorem
+pub range : (m : ℕ) (ss : List Step) (bs : List ℕ) (t : List ℤ) → T (checks after (fine m) ss bs) → EachWithin bs t
+    → Ok step (Fine m) ss t × EachWithin (run after ss bs) (run step ss t)
+range m = checks-sound step (Fine m) after (fine m) EachWithin (step-sound m)
+
+-- ---- a whole transform
+pub each-under : (n o : ℕ) (bs : List ℕ) {t : List ℤ} → T (under n o bs) → EachWithin bs t → EachWithin (replicate n o) t
+each-under n o bs {t} h b = record { each = go }
+  where
+    go : (k : ℕ) → k < length (replicate n o) → Within (getD (replicate n o) k 0) (getD t k (pos 0))
+    go k l =
+        let lt : k < n = rw length-replicate at l in
+        let r = below n (λ k. both (ltb k (length bs)) (leb (getD bs k 0) o)) h k lt in
+        rw (getD-replicate n k o 0 lt)
+        (within-le (leb→le (getD bs k 0) o (b₂ (ltb k (length bs)) (leb (getD bs k 0) o) r))
+        (b .each k (ltb→lt k (length bs) (b₁ (ltb k (length bs)) (leb (getD bs k 0) o) r))))
+
+pub pass-sound : (m : ℕ) (ss : List Step) (n i o : ℕ) {t : List ℤ} → T (passes m ss n i o) → EachWithin (replicate n i) t
+    → Ok step (Fine m) ss t × EachWithin (replicate n o) (run step ss t)
+unfolding passes
+pass-sound m ss n i o {t} h b =
+    let bs = replicate n i in
+    let c = checks after (fine m) ss bs in
+    let u = under n o (run after ss bs) in
+    let r = range m ss bs t (b₁ c u h) b in
+    (r .0, each-under n o (run after ss bs) (b₂ c u h) (r .1))
+
+-- ---- over T and S
+pub step-sound2 : (m : ℕ) (s : Step2) (v : Bounds) (u : Arrays) → T (fine2 m s v) → EachWithin2 v u → Fine2 m s u × EachWithin2 (after2 s v) (step2 s u)
+unfolding after2 fine2 step2 applySB applySH put
+step-sound2 m (on s) v u h k = let r = step-sound m s (v .T) (u .T) h (k .ofT) in (r .0, record { ofT = r .1; ofS = k .ofS })
+step-sound2 m (SB a b g false) v u h k =
+    let w = two 16 m (v .T) (u .T) a b h (k .ofT) in
+    let p = w .fst in
+    let q = w .snd in (
+      (p .room, q .room, p .low, q .low),
+      record { ofT = k .ofT; ofS = each-set b (each-set a (k .ofS) (within-turnX g (p .own) (q .own))) (within-turnY g (p .own) (q .own)) },
+    )
+step-sound2 m (SB a b g true) v u h k =
+    let w = two 16 m (v .T) (u .T) a b h (k .ofT) in
+    let p = w .fst in
+    let q = w .snd in (
+      (p .room, q .room, p .low, q .low),
+      record { ofT = k .ofT; ofS = each-set b (each-set a (k .ofS) (within-turnY g (p .own) (q .own))) (within-turnX g (p .own) (q .own)) },
+    )
+step-sound2 m (SH a b) v u h k =
+    let w = two 16 (m * 32768) (v .S) (u .S) a b h (k .ofS) in
+    let p = w .fst in
+    let q = w .snd in (
+      (p .room, q .room, p .low, q .low),
+      record {
+        ofT = each-set b (each-set a (k .ofT) (within-rounded (within-add (p .own) (q .own)))) (within-rounded (within-sub (p .own) (q .own)));
+        ofS = k .ofS;
+      },
+    )
+
+pub range2 : (m : ℕ) (ss : List Step2) (v : Bounds) (u : Arrays) → T (checks after2 (fine2 m) ss v) → EachWithin2 v u
+    → Ok step2 (Fine2 m) ss u × EachWithin2 (run after2 ss v) (run step2 ss u)
+range2 m = checks-sound step2 (Fine2 m) after2 (fine2 m) EachWithin2 (step-sound2 m)
+
+pub pass-sound2 : (m : ℕ) (ss : List Step2) (n i o : ℕ) {t : List ℤ} → T (passes2 m ss n i o) → EachWithin (replicate n i) t
+    → Ok step2 (Fine2 m) ss (fresh t) × EachWithin (replicate n o) (run step2 ss (fresh t) .T)
+unfolding passes2 fresh
+pass-sound2 m ss n i o {t} h b =
+    let v = clean (replicate n i) in
+    let c = checks after2 (fine2 m) ss v in
+    let d = under n o (run after2 ss v .T) in
+    let zeros : EachWithin (replicate 16 0) (replicate 16 (pos 0)) = each-all 16 0 (record { each = table-within 0 (replicate 16 (pos 0)) tt }) in
+    let r = range2 m ss v (record { T = t; S = replicate 16 (pos 0) }) (b₁ c d h) (record { ofT = b; ofS = zeros }) in
+    (r .0, each-under n o (run after2 ss v .T) (b₂ c d h) (r .1 .ofT))

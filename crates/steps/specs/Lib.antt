@@ -1,0 +1,5 @@
+pub mod Step
+pub mod Step2
+pub mod Bounds
+pub mod Shapes
+pub mod Places
