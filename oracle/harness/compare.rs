@@ -360,6 +360,26 @@ fn say(call: &Call, outcome: &Outcome) {
     }
 }
 
+/// The first number in which a line parts from the Rust.
+fn say_first(rust: &Outcome, line: &Outcome) {
+    for (k, (a, b)) in rust.nums.iter().zip(&line.nums).enumerate() {
+        if a != b {
+            println!("  number {k} of the outcome: the Rust {a}, the line {b}");
+            return;
+        }
+    }
+    for (k, (a, b)) in rust.lists.iter().zip(&line.lists).enumerate() {
+        if a.len() != b.len() {
+            println!("  list {k} of the outcome: the Rust has {} numbers, the line {}", a.len(), b.len());
+            return;
+        }
+        if let Some(i) = (0..a.len()).find(|i| a[*i] != b[*i]) {
+            println!("  list {k} of the outcome, place {i}: the Rust {}, the line {}", a[i], b[i]);
+            return;
+        }
+    }
+}
+
 fn report(side: &Side, text: &[u8], dir: &str) {
     let (call, expected) = line::read(text).expect("our own line");
     let name = line::shape(call.kind).expect("a kind").name;
@@ -374,10 +394,10 @@ fn report(side: &Side, text: &[u8], dir: &str) {
         }
         None => {
             println!("  asked again, {} agrees with the Rust: the expected outcome of the line is what is wrong", side.name);
-            say(&call, &ask::ask(&call));
+            let outcome = ask::ask(&call);
+            say(&call, &outcome);
             if let Some(e) = expected {
-                println!("  the line says:");
-                say(&Call { kind: call.kind, args: vec![], lists: vec![] }, &e);
+                say_first(&outcome, &e);
             }
         }
     }
