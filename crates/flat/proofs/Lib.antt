@@ -1,2 +1,3 @@
 mod Three
 mod Table
+mod Straight
