@@ -376,3 +376,31 @@ pub fn record_at(s: &[u8], at: usize) -> Record
         next: Cursor { at: from + n },
     }
 }
+
+// The lent file and the place in it, kept together.
+pub struct Reader<'a> {
+    pub file: &'a [u8],
+    pub at: usize,
+}
+
+impl<'a> Reader<'a> {
+    // The record at the reader's place; its `next` is the place to read on from.
+    pub fn next(self) -> Record
+        ensures { λ r. ⌜ Recorded (now (self .entry .file)) (self .entry .at) r ⌝ }
+    {
+        record_at(self.file, self.at)
+    }
+}
+
+pub fn open<'a>(file: &'a [u8], at: usize) -> Reader<'a>
+    ensures { λ r. ⌜ (r .file ≡ file .entry) × (r .at ≡ at) ⌝ }
+{
+    Reader { file, at }
+}
+
+// Opens a reader at a place and reads on: plain parameters, so that whoever calls this holds no reader.
+pub fn next_record(file: &[u8], at: usize) -> Record
+    ensures { λ r. ⌜ Recorded (now (file .entry)) at r ⌝ }
+{
+    open(file, at).next()
+}

@@ -49,7 +49,7 @@ loop-again c =
     let l = c .before .before .before .before .before .loop in
     let got = c .before .before .before .read-i32 in
     let e : toZ w64 (ofZ w64 (c .before .long .result)) ≡ signed32 (le4 (a .s .now) (a .self .at + 4 * l .k)) =
-        toZ-ofZ w64 (c .before .long .result) (record { sfits = c .before .long .ok }) ∙ c .before .long .ensures ∙ back32 (got .result .value) (c .before .before .struct-told .given .0 .1) ∙ got .ensures .value-is ∙ ap (λ (p : ℕ). signed32 (le4 (a .s .now) p)) (l .inv .1)
+    toZ-ofZ w64 (c .before .long .result) (record { sfits = c .before .long .ok }) ∙ c .before .long .ensures ∙ back32 (got .result .value) (c .before .before .struct-told .given .0 .1) ∙ got .ensures .value-is ∙ ap (λ (p : ℕ). signed32 (le4 (a .s .now) p)) (l .inv .1)
     in
     (search needs, omega (arith, l .inv .1, got .ensures .next-is), search needs, fill-more _ _ (l .k) (l .inv .3) (ap (set (l .tokens) (l .k)) e))
 
