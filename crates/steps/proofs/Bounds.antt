@@ -1,53 +1,38 @@
 -- The range theorem: where the computed test holds, every step is fine, and the values stay within the computed bounds.
-use mathlib.Core.Path.{_≡_, refl, sym, ap, subst}
-use mathlib.Core.Bool.{Bool, true, false}
-use mathlib.Core.List.{List, [], _∷_}
+use mathlib.Core.Bool.{true, false}
+use mathlib.Core.List.{List}
 use Prim.Native.Nat.{ℕ, zero, suc, _+_, _-_, _*_, _/_, _^_, _≤_, _<_}
 use native.Mathlib.Nat as NatL
 use native.Mathlib.Omega.{arith}
-use lib.Dec.{T, leb, leb→le, ltb, ltb→lt, lit<}
-use lib.IntN.{ℤ, pos, negℤ, natAbs, _+ℤ_, _-ℤ_, _*ℤ_}
-use lib.ListN.{length, getD, set, replicate, length-replicate, getD-replicate}
+use lib.Dec.{T, leb, leb→le, ltb, ltb→lt}
+use lib.IntN.{ℤ, pos, natAbs, _+ℤ_, _-ℤ_}
+use lib.ListN.{length, getD, replicate, length-replicate, getD-replicate}
 use lib.Pow.{pow-pos}
 use lib.Signed.{shrZ}
-use Rattle.whole.specs.Parts.{P, N}
 use Rattle.whole.specs.Within.{Within, EachWithin}
 use Rattle.whole.specs.Ring.{E, at, _⊕_, _⊖_, ev, pp, pn}
 use Rattle.whole.specs.Tests.{both, allBelow}
 use Rattle.whole.specs.Round.{Round2}
 use Rattle.whole.specs.Lists.{fill, move}
 use Rattle.whole.specs.Steps.{run, Ok, checks}
-use Rattle.whole.proofs.Parts.{apart, sum-parts, neg-P, neg-N, shr-low, shr-high}
+use Rattle.whole.proofs.Parts.{shr-low, shr-high}
 use Rattle.whole.proofs.Ring.{sound}
-use Rattle.whole.proofs.Within.{within-le, within-abs, within-parts, within-neg, within-add, within-sub, within-mul, within-shr, each-set, each-all, table-within}
+use Rattle.whole.proofs.Within.{within-self, within-le, within-parts, within-neg, within-add, within-sub, within-mul, within-shr, each-set, each-all, table-within}
 use Rattle.whole.proofs.Tests.{b₁, b₂, below}
-use Rattle.whole.proofs.Round.{round2-within}
 use Rattle.whole.proofs.Steps.{checks-sound}
 use Rattle.primitives.specs.Cosine.{Cos64, Sin64}
+use Rattle.primitives.specs.Growth.{rounded, grownX, grownY}
+use Rattle.primitives.proofs.Growth.{within-rounded, within-turnX, within-turnY}
 use Rattle.primitives.specs.Rotations.{turnX, turnY, put, applyB, applyH, applySB, applySH}
 use Rattle.steps.specs.Step.{Step, Bf, Hd, Neg, Move, A4, Wh, step, adst4, halfway, wht4, Fine}
 use Rattle.steps.specs.Step2.{Arrays, Step2, on, SB, SH, step2, fresh, Fine2}
-use Rattle.steps.specs.Bounds.{rounded, shifted, grownX, grownY, after, place, fine, under, passes, Bounds, EachWithin2, after2, fine2, clean, passes2}
+use Rattle.steps.specs.Bounds.{shifted, after, place, fine, under, passes, Bounds, EachWithin2, after2, fine2, clean, passes2}
 
 -- ---- one operation
-pub within-self : (z : ℤ) → Within (natAbs z) z
-within-self z = within-abs (NatL.le-refl (natAbs z))
-
-pub within-rounded : {m : ℕ} {x : ℤ} → Within m x → Within (rounded m) (Round2 x 14)
-within-rounded b = round2-within 14 (omega arith) b
-
 pub within-shifted : (k : ℕ) {m : ℕ} {x : ℤ} → Within m x → Within (shifted k m) (shrZ x (2 ^ k))
 within-shifted k {m} {x} b =
     let q = NatL.lt-div-mul-add {a = m + (2 ^ k - 1)} {b = 2 ^ k} (pow-pos k) in
     within-shr (shifted k m) (2 ^ k) x (pow-pos k) (omega (arith, pow-pos k)) (omega (arith, pow-pos k))
-
-pub within-turnX : {m n : ℕ} {p q : ℤ} (g : ℤ) → Within m p → Within n q → Within (grownX m n g) (turnX p q g)
-unfolding turnX
-within-turnX g bp bq = within-sub (within-mul bp (within-self (Cos64 g))) (within-mul bq (within-self (Sin64 g)))
-
-pub within-turnY : {m n : ℕ} {p q : ℤ} (g : ℤ) → Within m p → Within n q → Within (grownY m n g) (turnY p q g)
-unfolding turnY
-within-turnY g bp bq = within-add (within-mul bp (within-self (Sin64 g))) (within-mul bq (within-self (Cos64 g)))
 
 -- ---- a place whose test holds
 record At (n m : ℕ) (bs : List ℕ) (t : List ℤ) (a : ℕ) : Type 0 where

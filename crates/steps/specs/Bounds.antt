@@ -3,29 +3,18 @@ use mathlib.Core.Bool.{Bool, true, false}
 use mathlib.Core.List.{List, [], _∷_}
 use Prim.Native.Nat.{ℕ, max, _+_, _-_, _*_, _/_, _^_}
 use lib.Dec.{leb, ltb}
-use lib.IntN.{ℤ, natAbs}
 use lib.ListN.{length, getD, set, replicate}
 use Rattle.whole.specs.Within.{EachWithin}
 use Rattle.whole.specs.Tests.{both, allBelow}
 use Rattle.whole.specs.Lists.{move}
 use Rattle.whole.specs.Steps.{run, checks}
-use Rattle.primitives.specs.Cosine.{Cos64, Sin64}
+use Rattle.primitives.specs.Growth.{rounded, grownX, grownY}
 use Rattle.steps.specs.Step.{Step, Bf, Hd, Neg, Move, A4, Wh}
 use Rattle.steps.specs.Step2.{Arrays, Step2, on, SB, SH}
 
--- of Round2(x, 14), of floor(x / 2^k), for x within m
-abbrev pub rounded : ℕ → ℕ
-rounded m = (m + 8192) / 16384
-
+-- of floor(x / 2^k), for x within m
 abbrev pub shifted : ℕ → ℕ → ℕ
 shifted k m = (m + (2 ^ k - 1)) / 2 ^ k
-
--- of x and y of a rotation of values within p and q
-abbrev pub grownX : ℕ → ℕ → ℤ → ℕ
-grownX p q g = p * natAbs (Cos64 g) + q * natAbs (Sin64 g)
-
-abbrev pub grownY : ℕ → ℕ → ℤ → ℕ
-grownY p q g = p * natAbs (Sin64 g) + q * natAbs (Cos64 g)
 
 -- what a step does to the bounds
 unfoldable pub after : Step → List ℕ → List ℕ

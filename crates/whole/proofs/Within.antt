@@ -25,6 +25,9 @@ within-abs {m} {z} h = record { hi = omega (arith, abs-parts z); lo = omega (ari
 pub abs-bd : {m : ℕ} {z : ℤ} → Within m z → natAbs z ≤ m
 abs-bd {m} {z} h = omega (arith, abs-parts z, apart z)
 
+pub within-self : (z : ℤ) → Within (natAbs z) z
+within-self z = within-abs (NatL.le-refl (natAbs z))
+
 -- from a bound on the difference of the parts alone
 pub within-parts : (m : ℕ) (z : ℤ) → P z ≤ N z + m → N z ≤ P z + m → Within m z
 within-parts m z h k = record { hi = omega (arith, apart z); lo = omega (arith, apart z) }

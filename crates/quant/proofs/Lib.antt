@@ -1,0 +1,6 @@
+pub mod Floor
+pub mod Sign
+pub mod TokenLaw
+pub mod Halves
+pub mod Machine
+pub mod Worked

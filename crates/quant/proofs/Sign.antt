@@ -1,0 +1,47 @@
+-- Laws of signs: a magnitude with a sign, and dequantizing and quantizing as they act on magnitudes.
+use mathlib.Core.Path.{_≡_, refl, sym, ap, _∙_}
+use mathlib.Core.Bool.{Bool, true, false, cond}
+use Prim.Native.Nat.{ℕ, zero, suc, min, _+_, _-_, _*_, _/_, _≤_, _<_}
+use native.Mathlib.Nat as NatL
+use native.Mathlib.Omega.{arith}
+use lib.Dec.{eqb}
+use lib.IntN.{ℤ, pos, negsuc, negℤ, natAbs, _*ℤ_}
+use lib.Signed.{quotZ}
+use Rattle.whole.proofs.Parts.{neg-P, neg-N, eq-parts, quot-P, quot-N}
+use Rattle.quant.specs.Token.{dqDenom, dequant, rounded, withSign, quantize}
+use Rattle.quant.proofs.Floor.{rounded-is}
+
+pub abs-with-sign : (z : ℤ) (m : ℕ) → natAbs (withSign z m) ≡ m
+abs-with-sign (pos a) m = refl
+abs-with-sign (negsuc a) zero = refl
+abs-with-sign (negsuc a) (suc m) = refl
+
+pub with-own-sign : (z : ℤ) → withSign z (natAbs z) ≡ z
+with-own-sign (pos a) = refl
+with-own-sign (negsuc a) = refl
+
+pub with-sign-zero : (z : ℤ) → withSign z 0 ≡ pos 0
+with-sign-zero (pos a) = refl
+with-sign-zero (negsuc a) = refl
+
+pub dequant-sign : (size n : ℕ) (t : ℤ) → dequant size (pos n) t ≡ withSign t (natAbs t * n / dqDenom size)
+unfolding dequant
+dequant-sign size n (pos a) = refl
+dequant-sign size n (negsuc a) =
+    let d = dqDenom size in
+    let z = negsuc a *ℤ pos n in
+    let v = suc a * n / d in
+    eq-parts (quotZ z (pos d)) (negℤ (pos v))
+    (rw (quot-P z d, quot-N z d, neg-P (pos v), neg-N (pos v), neg-P (pos (suc a * n)), neg-N (pos (suc a * n)), NatL.zero-div d))
+
+rounded-zero : (q : ℕ) → 0 < q → rounded q 0 ≡ 0
+rounded-zero q p = rounded-is q 0 0 (record { low = omega arith; high = omega arith })
+
+pub quantize-sign : (size cap : ℕ) (q t : ℤ) (m : ℕ) → 0 < natAbs q
+    → quantize size cap q (withSign t m) ≡ withSign t (min cap (rounded (natAbs q) (m * dqDenom size)))
+unfolding quantize
+quantize-sign size cap q (pos a) m p = refl
+quantize-sign size cap q (negsuc a) zero p =
+    let e : min cap (rounded (natAbs q) (0 * dqDenom size)) ≡ 0 = omega (arith, ap (rounded (natAbs q)) (NatL.zero-mul (dqDenom size)), rounded-zero (natAbs q) p) in
+    rw e
+quantize-sign size cap q (negsuc a) (suc m) p = refl

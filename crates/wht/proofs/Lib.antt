@@ -1,0 +1,3 @@
+pub mod Wht
+pub mod Ranges
+mod Machine

@@ -1,0 +1,157 @@
+//! One call put to the Rust, or refused by the scope document's rules.
+
+use crate::idct_open::open;
+use crate::line::{Call, Outcome};
+use crate::{fwd_transform, idct, idct_open, intra, reconstruct, rules, vbk};
+
+fn numbers(list: impl IntoIterator<Item = impl Into<i64>>) -> Vec<i64> {
+    list.into_iter().map(Into::into).collect()
+}
+
+fn value(v: i64) -> Outcome {
+    Outcome { nums: vec![v.into()], lists: vec![] }
+}
+
+fn list(l: Vec<i64>) -> Outcome {
+    Outcome { nums: vec![], lists: vec![l] }
+}
+
+fn answered(answer: u8, l: Vec<i64>) -> Outcome {
+    Outcome { nums: vec![answer.into()], lists: vec![l] }
+}
+
+/// True where the Rust's debug build stops by its own subtraction: sin64 within 32 of the least i32.
+pub fn stops_in_debug(c: &Call) -> bool {
+    let angle = match c.kind {
+        4 => c.args[0],
+        5 | 7 => c.args[2],
+        _ => return false,
+    };
+    angle < i128::from(i32::MIN) + 32
+}
+
+pub fn ask(c: &Call) -> Outcome {
+    let a = |i: usize| c.args[i];
+    match c.kind {
+        1 => value(open::round2(a(0) as i64, a(1) as u32)),
+        2 => value(idct::brev(a(0) as u32, a(1) as usize) as i64),
+        3 => value(idct::cos64(a(0) as i32)),
+        4 => value(idct::sin64(a(0) as i32)),
+        5 => {
+            let mut t = c.lists[0].clone();
+            open::butterfly(&mut t, a(0) as usize, a(1) as usize, a(2) as i32, a(3) != 0);
+            list(t)
+        }
+        6 => {
+            let mut t = c.lists[0].clone();
+            open::hadamard(&mut t, a(0) as usize, a(1) as usize, a(2) != 0);
+            list(t)
+        }
+        7 => {
+            let mut s = c.lists[1].clone();
+            open::sb(&c.lists[0], &mut s, a(0) as usize, a(1) as usize, a(2) as i32, a(3) != 0);
+            list(s)
+        }
+        8 => {
+            let mut t = c.lists[0].clone();
+            open::sh(&mut t, &c.lists[1], a(0) as usize, a(1) as usize);
+            list(t)
+        }
+        10 => {
+            let n = a(0) as u32;
+            let mut t = c.lists[0].clone();
+            open::apply_1d(&mut t, n, true);
+            // the Rust has two engines for a DCT row; they must agree
+            let mut fast: [i64; 32] = c.lists[0][..].try_into().expect("32 numbers");
+            open::idct_fast(&mut fast, n);
+            assert_eq!(t, fast, "the Rust's two DCT engines part");
+            list(t)
+        }
+        11 => {
+            let mut t = c.lists[0].clone();
+            idct_open::inverse_adst(&mut t, a(0) as u32);
+            list(t)
+        }
+        12 => {
+            let mut t = c.lists[0].clone();
+            idct::inverse_wht(&mut t, a(0) as u32);
+            list(t)
+        }
+        20 | 21 => {
+            let (n, tx_type, lossless) = (a(0) as u32, a(1) as u8, a(2) != 0);
+            let mut block = c.lists[0].clone();
+            let answer = rules::driver(n, tx_type, lossless, &block);
+            if answer == 0 {
+                if c.kind == 20 {
+                    idct::inverse_transform_2d(&mut block, n, tx_type, lossless);
+                } else {
+                    idct::inverse_transform_2d_reference(&mut block, n, tx_type, lossless);
+                }
+            }
+            answered(answer, block)
+        }
+        22 => {
+            let r = rules::Recon {
+                x: a(0) as u64,
+                y: a(1) as u64,
+                size: a(2) as u32,
+                tx_type: a(3) as u8,
+                lossless: a(4) != 0,
+                depth: a(5) as u32,
+                dc: a(6) as i32,
+                ac: a(7) as i32,
+                width: a(8) as u64,
+                height: a(9) as u64,
+                tokens: &c.lists[0],
+                samples: c.lists[1].len(),
+            };
+            let answer = rules::reconstruct(&r);
+            if answer != 0 {
+                return answered(answer, c.lists[1].clone());
+            }
+            let mut plane = intra::Plane::new(r.width as usize, r.height as usize);
+            for (s, v) in plane.samples_mut().iter_mut().zip(&c.lists[1]) {
+                *s = *v as u16;
+            }
+            let (x, y) = (r.x as usize, r.y as usize);
+            reconstruct::reconstruct_block(&mut plane, x, y, r.size, r.tokens, r.dc, r.ac, r.tx_type, r.lossless, r.depth);
+            answered(0, numbers(plane.samples().iter().copied()))
+        }
+        23 => {
+            let mut block = c.lists[0].clone();
+            let answer = rules::forward_wht(&block);
+            if answer == 0 {
+                fwd_transform::forward_wht_2d(&mut block);
+            }
+            answered(answer, block)
+        }
+        24 => {
+            let (dc, ac, size, depth) = (a(0) as i32, a(1) as i32, a(2) as u32, a(3) as u32);
+            let mut coefs = c.lists[0].clone();
+            let answer = rules::quantize_block_tx(dc, ac, size, depth, &coefs);
+            if answer == 0 {
+                fwd_transform::quantize_block_tx(&mut coefs, dc, ac, size, depth);
+            }
+            answered(answer, coefs)
+        }
+        25 => {
+            let (dc, ac) = (a(0) as i32, a(1) as i32);
+            let mut coefs = c.lists[0].clone();
+            let answer = rules::quantize_block(dc, ac, &coefs);
+            if answer == 0 {
+                fwd_transform::quantize_block(&mut coefs, dc, ac);
+            }
+            answered(answer, coefs)
+        }
+        26 => {
+            let depth = a(0) as u32;
+            value(if rules::good_depth(depth) { fwd_transform::max_codeable_coef(depth) } else { 0 })
+        }
+        30 => {
+            let file: Vec<u8> = c.lists[0].iter().map(|b| *b as u8).collect();
+            let r = vbk::replay(&file);
+            Outcome { nums: vec![r.header.into(), r.touched.into()], lists: vec![numbers(r.answers), numbers(r.samples)] }
+        }
+        k => panic!("no kind {k}"),
+    }
+}

@@ -1,0 +1,1021 @@
+//! Calls from a seed: a systematic part (every size, type, depth and place, every limit, every refusal alone and
+//! in pairs) and as many random ones as asked for.
+
+use crate::line::Call;
+use crate::rng::Rng;
+use crate::{files, rules};
+
+const LEAF: i64 = 1 << 46; // operands of B, H and SB
+const WIDE: i64 = 1 << 60; // numbers of S
+const ROW: i64 = 1 << 31; // inputs of one row
+const COEF: i64 = rules::COEF_LIMIT as i64;
+const LINE_FILE: usize = 9_000; // bytes of a file that goes into a line
+const FORWARD: i64 = rules::FORWARD_LIMIT as i64;
+
+pub const DEPTHS: [u32; 3] = [8, 10, 12];
+const BAD_DEPTHS: [u32; 12] = [0, 1, 7, 9, 11, 13, 14, 16, 32, 57, 64, u32::MAX];
+const BAD_SIZES: [u32; 6] = [4, 5, 8, 30, 255, u32::MAX];
+pub const BAD_TYPES: [u8; 5] = [4, 5, 8, 128, 255];
+const BAD_QUANTS: [i32; 7] = [0, -1, 32_768, 65_535, -32_768, i32::MAX, i32::MIN];
+
+fn call(kind: u32, args: Vec<i128>, lists: Vec<Vec<i64>>) -> Call {
+    Call { kind, args, lists }
+}
+
+pub fn side(n: u32) -> usize {
+    1 << n
+}
+
+/// A bound for a case's numbers: most cases are small, some at the limit.
+fn bound(r: &mut Rng, limit: i64) -> i64 {
+    let b = match r.below(8) {
+        0 => 1,
+        1 => 3,
+        2 => 10,
+        3 => 100,
+        4 => 1 << 12,
+        5 => 1 << 17,
+        6 => 1 << 22,
+        _ => limit,
+    };
+    b.min(limit)
+}
+
+/// A number within the bound; often the bound itself.
+fn number(r: &mut Rng, bound: i64) -> i64 {
+    match r.below(8) {
+        0 => bound,
+        1 => -bound,
+        _ => r.range(-bound, bound),
+    }
+}
+
+/// A number within the bound that is not zero.
+fn nonzero(r: &mut Rng, bound: i64) -> i64 {
+    match number(r, bound) {
+        0 => 1,
+        v => v,
+    }
+}
+
+/// The contents of a block of n0 x n0 places, place k within limit(k).
+pub fn fill(r: &mut Rng, n0: usize, limit: &dyn Fn(usize) -> i64) -> Vec<i64> {
+    let count = n0 * n0;
+    let mut v = vec![0i64; count];
+    let scale = bound(r, i64::MAX >> 1);
+    let at = |r: &mut Rng, k: usize| nonzero(r, scale.min(limit(k)));
+    match r.below(12) {
+        0 => {}
+        1 => v[0] = at(r, 0),
+        2 | 3 => {
+            let k = r.below(count as u64) as usize;
+            v[k] = at(r, k);
+        }
+        4 => {
+            for _ in 0..r.range(2, 8) {
+                let k = r.below(count as u64) as usize;
+                v[k] = at(r, k);
+            }
+        }
+        5 => {
+            // the low corner, as a coder leaves it
+            let c = r.range(1, (n0 as i64 + 1) / 2) as usize;
+            for i in 0..c {
+                for j in 0..c - i {
+                    v[i * n0 + j] = at(r, i * n0 + j);
+                }
+            }
+        }
+        6 => {
+            for (k, x) in v.iter_mut().enumerate() {
+                *x = at(r, k);
+            }
+        }
+        7 => {
+            // rows that are zero between rows that are not
+            for i in 0..n0 {
+                if r.once_in(2) {
+                    for j in 0..n0 {
+                        v[i * n0 + j] = number(r, scale.min(limit(i * n0 + j)));
+                    }
+                }
+            }
+        }
+        8 => {
+            let i = r.below(n0 as u64) as usize;
+            for j in 0..n0 {
+                v[i * n0 + j] = at(r, i * n0 + j);
+            }
+        }
+        9 => {
+            let j = r.below(n0 as u64) as usize;
+            for i in 0..n0 {
+                v[i * n0 + j] = at(r, i * n0 + j);
+            }
+        }
+        10 => {
+            // one magnitude everywhere, signs alike or by a pattern of bits: sums grow the most
+            let (si, sj) = (r.next(), r.next());
+            for (k, x) in v.iter_mut().enumerate() {
+                let m = scale.min(limit(k));
+                *x = if (si >> (k / n0) ^ sj >> (k % n0)) & 1 == 1 { -m } else { m };
+            }
+        }
+        _ => v[count - 1] = at(r, count - 1),
+    }
+    v
+}
+
+fn tail(r: &mut Rng, count: usize, limit: i64) -> Vec<i64> {
+    (0..count).map(|_| if r.once_in(3) { number(r, limit) } else { 0 }).collect()
+}
+
+// ---- parts under the public calls ----
+
+/// A working list: numbers everywhere, or in the two places of the step and a few more.
+fn working(r: &mut Rng, len: usize, limit: i64, (a, b): (i128, i128)) -> Vec<i64> {
+    let scale = bound(r, limit);
+    if r.once_in(2) {
+        return (0..len).map(|_| if r.once_in(4) { number(r, limit) } else { number(r, scale) }).collect();
+    }
+    let mut t = vec![0; len];
+    for k in [a as usize, b as usize, r.below(len as u64) as usize] {
+        t[k] = nonzero(r, scale);
+    }
+    t
+}
+
+fn t32(r: &mut Rng, places: (i128, i128)) -> Vec<i64> {
+    working(r, 32, LEAF, places)
+}
+
+fn s16(r: &mut Rng, places: (i128, i128)) -> Vec<i64> {
+    working(r, 16, WIDE, places)
+}
+
+fn pair(r: &mut Rng, below: u64) -> (i128, i128) {
+    let a = r.below(below);
+    let b = (a + 1 + r.below(below - 1)) % below;
+    (a.into(), b.into())
+}
+
+fn angle(r: &mut Rng) -> i128 {
+    match r.below(4) {
+        0 => i128::from(r.next() as i32),
+        1 => i128::from(16 + 32 * r.range(-8, 8)),
+        2 => i128::from(r.range(0, 64)),
+        _ => i128::from(r.range(-256, 256)),
+    }
+}
+
+fn round2(r: &mut Rng) -> Call {
+    let k = r.range(1, 14);
+    let x = match r.below(3) {
+        0 => (r.range(-(1 << 20), 1 << 20) << k) + (1 << (k - 1)) + r.range(-1, 1),
+        1 => r.range(-(1 << 61), 1 << 61),
+        _ => r.range(-100_000, 100_000),
+    };
+    call(1, vec![x.into(), k.into()], vec![])
+}
+
+fn brev(r: &mut Rng) -> Call {
+    let bits = r.below(6);
+    call(2, vec![bits.into(), r.below(1 << bits).into()], vec![])
+}
+
+fn butterfly(r: &mut Rng) -> Call {
+    let (a, b) = pair(r, 32);
+    call(5, vec![a, b, angle(r), r.below(2).into()], vec![t32(r, (a, b))])
+}
+
+fn hadamard(r: &mut Rng) -> Call {
+    let (a, b) = pair(r, 32);
+    call(6, vec![a, b, r.below(2).into()], vec![t32(r, (a, b))])
+}
+
+fn sb(r: &mut Rng) -> Call {
+    let (a, b) = pair(r, 16);
+    call(7, vec![a, b, angle(r), r.below(2).into()], vec![t32(r, (a, b)), s16(r, (a, b))])
+}
+
+fn sh(r: &mut Rng) -> Call {
+    let (a, b) = pair(r, 16);
+    call(8, vec![a, b], vec![t32(r, (a, b)), s16(r, (a, b))])
+}
+
+/// A row of 2^n numbers in a list of 32; what follows the row must stay.
+fn row(r: &mut Rng, n: u32) -> Vec<i64> {
+    let n0 = side(n);
+    let b = bound(r, ROW);
+    let mut v = vec![0i64; n0];
+    match r.below(4) {
+        0 => v[r.below(n0 as u64) as usize] = nonzero(r, b),
+        1 => {
+            let s = r.next();
+            for (i, x) in v.iter_mut().enumerate() {
+                *x = if s >> i & 1 == 1 { -b } else { b };
+            }
+        }
+        2 => {
+            for _ in 0..3 {
+                v[r.below(n0 as u64) as usize] = nonzero(r, b);
+            }
+        }
+        _ => {
+            for x in v.iter_mut() {
+                *x = number(r, b);
+            }
+        }
+    }
+    if r.once_in(3) {
+        v.extend(tail(r, 32 - n0, ROW));
+    }
+    v.resize(32, 0);
+    v
+}
+
+fn dct(r: &mut Rng) -> Call {
+    let n = r.range(2, 5) as u32;
+    call(10, vec![n.into()], vec![row(r, n)])
+}
+
+fn adst(r: &mut Rng) -> Call {
+    let n = r.range(2, 4) as u32;
+    call(11, vec![n.into()], vec![row(r, n)])
+}
+
+fn wht(r: &mut Rng) -> Call {
+    let mut v = row(r, 2);
+    v.truncate(4);
+    call(12, vec![r.pick(&[0, 2])], vec![v])
+}
+
+// ---- the two drivers ----
+
+/// n, type and lossless of a call that nothing refuses.
+fn kind_of_block(r: &mut Rng) -> (u32, u8, bool) {
+    let n = r.pick(&[2u32, 2, 2, 3, 3, 4, 4, 5]);
+    let lossless = n == 2 && r.once_in(4);
+    let tx_type = match (lossless, n) {
+        (true, _) => r.pick(&[0, 1, 2, 3, 4, 255]),
+        (_, 5) => 0,
+        _ => r.below(4) as u8,
+    };
+    (n, tx_type, lossless)
+}
+
+fn driver_call(kind: u32, n: u32, tx_type: u8, lossless: bool, block: Vec<i64>) -> Call {
+    call(kind, vec![n.into(), tx_type.into(), i128::from(lossless)], vec![block])
+}
+
+fn driver(r: &mut Rng, kind: u32) -> Call {
+    let (n, tx_type, lossless) = kind_of_block(r);
+    let mut block = fill(r, side(n), &|_| COEF);
+    if r.once_in(8) {
+        // longer than the block: what follows is neither checked nor written
+        let more = r.range(1, 40) as usize;
+        block.extend(tail(r, more, i64::MAX));
+    }
+    if r.once_in(32) {
+        let k = r.below(block.len() as u64) as usize;
+        block[k] = beyond(r, COEF);
+    }
+    driver_call(kind, n, tx_type, lossless, block)
+}
+
+/// One past the limit, or far past it.
+pub fn beyond(r: &mut Rng, limit: i64) -> i64 {
+    match r.below(6) {
+        0 | 1 => limit + 1,
+        2 | 3 => -limit - 1,
+        4 => i64::MAX,
+        _ => i64::MIN,
+    }
+}
+
+/// A driver call to which each of these numbers applies (as far as they can together).
+fn refused_driver(r: &mut Rng, kind: u32, wanted: &[u8]) -> Call {
+    let has = |a: u8| wanted.contains(&a);
+    let (mut n, mut tx_type, mut lossless) = kind_of_block(r);
+    n = n.min(3 + u32::from(r.once_in(6)));
+    if has(3) {
+        lossless = true;
+        n = r.pick(&[3, 3, 4, 5]);
+    } else if has(4) {
+        lossless = false;
+        if r.once_in(3) {
+            n = 5;
+            tx_type = r.pick(&[1, 2, 3, 4, 255]);
+        } else {
+            tx_type = r.pick(&BAD_TYPES);
+        }
+    }
+    let count = side(n) * side(n);
+    let mut block = fill(r, side(n), &|_| 50);
+    if has(9) {
+        let k = r.below(count as u64) as usize;
+        block[k] = beyond(r, COEF);
+    }
+    if has(6) {
+        block.truncate(r.pick(&[0, 1, count / 2, count - 1]));
+    }
+    if has(2) {
+        n = r.pick(&[0, 1, 6, 7, 31, 32, 64, u32::MAX]);
+    }
+    driver_call(kind, n, tx_type, lossless, block)
+}
+
+// ---- reconstruction ----
+
+pub struct Recon {
+    pub x: u64,
+    pub y: u64,
+    pub size: u32,
+    pub tx_type: u8,
+    pub lossless: bool,
+    pub depth: u32,
+    pub dc: i32,
+    pub ac: i32,
+    pub width: u64,
+    pub height: u64,
+    pub tokens: Vec<i64>,
+    pub samples: Vec<i64>,
+}
+
+impl Recon {
+    pub fn call(self) -> Call {
+        let args = vec![
+            self.x.into(),
+            self.y.into(),
+            self.size.into(),
+            self.tx_type.into(),
+            i128::from(self.lossless),
+            self.depth.into(),
+            self.dc.into(),
+            self.ac.into(),
+            self.width.into(),
+            self.height.into(),
+        ];
+        call(22, args, vec![self.tokens, self.samples])
+    }
+}
+
+fn quantizer(r: &mut Rng) -> i32 {
+    match r.below(6) {
+        0 => 1,
+        1 => 4,
+        2 => r.range(2, 40) as i32,
+        3 => r.range(2, 1_828) as i32,
+        4 => r.range(1, 32_767) as i32,
+        _ => 32_767,
+    }
+}
+
+/// The greatest token of a place that no limit refuses.
+pub fn token_bound(size: u32, depth: u32, q: i32) -> i64 {
+    let most = if size == 3 { 2 * COEF + 1 } else { COEF };
+    (most / i64::from(q)).min(rules::codeable(depth))
+}
+
+pub fn samples(r: &mut Rng, count: usize, depth: u32) -> Vec<i64> {
+    let top = (1i64 << depth) - 1;
+    match r.below(6) {
+        0 => vec![r.range(0, top); count],
+        1 => (0..count).map(|_| r.pick(&[0, top])).collect(),
+        2 => (0..count).map(|_| r.range(0, 65_535)).collect(), // above the depth too
+        3 => (0..count).map(|_| r.pick(&[0, top, top + 1, 65_535])).collect(),
+        _ => (0..count).map(|_| r.range(0, top)).collect(),
+    }
+}
+
+/// Where a block of n0 stands against a side of the plane: inside, cut, at the edge, far outside.
+fn place(r: &mut Rng, n0: u64) -> (u64, u64) {
+    let slack = r.below(5);
+    match r.below(10) {
+        0..=2 => (n0 + slack, r.below(slack + 1)), // inside
+        3..=5 => {
+            let keep = 1 + r.below(n0); // keep columns or rows are left
+            let x = r.below(6);
+            (x + keep, x)
+        }
+        6 => {
+            let w = r.below(8);
+            (w, w) // just outside
+        }
+        7 => {
+            let w = 1 + r.below(8);
+            (w, w - 1) // the last one
+        }
+        8 => {
+            let w = r.below(8);
+            (w, r.pick(&[w + 1, 65_535, 65_536, 1 << 32, u64::MAX - 1, u64::MAX]))
+        }
+        _ => (r.pick(&[0, 1, n0 - 1, n0, n0 + 1]), 0),
+    }
+}
+
+pub fn good_recon(r: &mut Rng) -> Recon {
+    let (n, tx_type, lossless) = kind_of_block(r);
+    let size = n - 2;
+    let n0 = side(n) as u64;
+    let depth = r.pick(&DEPTHS);
+    let (dc, ac) = (quantizer(r), quantizer(r));
+    let (mut width, mut x) = place(r, n0);
+    let (mut height, mut y) = place(r, n0);
+    if r.once_in(3) {
+        // both inside: a plain block
+        (width, x) = (n0, 0);
+        (height, y) = (n0, 0);
+    }
+    let tokens = fill(r, side(n), &|k| token_bound(size, depth, if k == 0 { dc } else { ac }));
+    let samples = samples(r, (width * height) as usize, depth);
+    Recon { x, y, size, tx_type, lossless, depth, dc, ac, width, height, tokens, samples }
+}
+
+fn recon(r: &mut Rng) -> Call {
+    let mut c = good_recon(r);
+    if r.once_in(24) {
+        // one past the greatest token of a place: 8 or 9
+        let k = r.below(c.tokens.len() as u64) as usize;
+        let q = if k == 0 { c.dc } else { c.ac };
+        let t = token_bound(c.size, c.depth, q) + 1;
+        c.tokens[k] = r.pick(&[t, -t]);
+    }
+    c.call()
+}
+
+fn refused_recon(r: &mut Rng, wanted: &[u8]) -> Call {
+    let has = |a: u8| wanted.contains(&a);
+    let mut c = good_recon(r);
+    while c.size > 1 && !r.once_in(8) {
+        c = good_recon(r);
+    }
+    if has(3) {
+        c.lossless = true;
+        c.size = r.pick(&[1, 1, 2, 3]);
+    } else if has(4) {
+        c.lossless = false;
+        if r.once_in(4) {
+            c.size = 3;
+            c.tx_type = r.pick(&[1, 2, 3, 255]);
+        } else {
+            c.tx_type = r.pick(&BAD_TYPES);
+        }
+    }
+    if has(1) {
+        c.depth = r.pick(&BAD_DEPTHS);
+    }
+    let codeable = if has(1) { 262_210 } else { rules::codeable(c.depth) };
+    let count = rules::area(c.size);
+    c.tokens = fill(r, side(c.size + 2), &|_| 20);
+    c.dc = c.dc.min(1_000);
+    c.ac = c.ac.min(1_000);
+    if has(9) {
+        // a codeable token whose product is beyond the limit
+        let least = 2 * COEF / codeable + 1;
+        let q = r.range(least.min(32_767), 32_767) as i32;
+        let k = if r.once_in(2) { 0 } else { r.below(count as u64) as usize };
+        if k == 0 {
+            c.dc = q;
+        } else {
+            c.ac = q;
+        }
+        c.tokens[k] = r.pick(&[codeable, -codeable]);
+    }
+    if has(8) {
+        let k = r.below(count as u64) as usize;
+        c.tokens[k] = beyond(r, codeable);
+    }
+    if has(5) {
+        let q = r.pick(&BAD_QUANTS);
+        match r.below(3) {
+            0 => c.dc = q,
+            1 => c.ac = q,
+            _ => (c.dc, c.ac) = (q, r.pick(&BAD_QUANTS)),
+        }
+    }
+    if has(6) {
+        let len = r.pick(&[0, 1, count - 1, count + 1, 2 * count]);
+        c.tokens.resize(len, 0);
+    }
+    if has(7) {
+        match r.below(6) {
+            0 if !c.samples.is_empty() => {
+                c.samples.pop();
+            }
+            1 => c.samples.push(7),
+            2 => (c.width, c.height, c.samples) = (65_536, 0, vec![]),
+            3 => (c.width, c.height, c.samples) = (0, 65_536, vec![]),
+            4 => (c.width, c.height) = (1 << 32, 1 << 32), // the product is 0 in 64 bits
+            _ => (c.width, c.height, c.samples) = (u64::MAX, 1, vec![5; 3]),
+        }
+    }
+    if has(2) {
+        c.size = r.pick(&BAD_SIZES);
+    }
+    c.call()
+}
+
+// ---- forward WHT and the quantizers ----
+
+fn forward(r: &mut Rng) -> Call {
+    let mut block = fill(r, 4, &|_| FORWARD);
+    if r.once_in(16) {
+        let k = r.below(16) as usize;
+        block[k] = beyond(r, FORWARD);
+    }
+    call(23, vec![], vec![block])
+}
+
+fn refused_forward(r: &mut Rng, wanted: &[u8]) -> Call {
+    let mut block = fill(r, 4, &|_| FORWARD);
+    if wanted.contains(&9) {
+        let k = r.below(16) as usize;
+        block[k] = beyond(r, FORWARD);
+    }
+    if wanted.contains(&6) {
+        match r.below(3) {
+            0 => block.truncate(r.below(16) as usize),
+            1 => block.push(beyond(r, FORWARD)),
+            _ => block.resize(r.pick(&[17, 32, 64]), 3),
+        }
+    }
+    call(23, vec![], vec![block])
+}
+
+fn coefs(r: &mut Rng, count: usize, dc: i32, ac: i32) -> Vec<i64> {
+    let b = bound(r, COEF);
+    let near = r.once_in(2);
+    (0..count)
+        .map(|k| {
+            let q = i64::from(if k == 0 { dc } else { ac });
+            let v = if near {
+                // about a half of a step
+                let steps = r.range(0, 1 + b / q.max(1));
+                (steps * q + q / 2 + r.range(-1, 1)) / r.range(1, 2)
+            } else {
+                number(r, b)
+            };
+            let v = v.clamp(-COEF, COEF);
+            if r.once_in(2) { -v } else { v }
+        })
+        .collect()
+}
+
+fn quantizer_length(r: &mut Rng) -> usize {
+    match r.below(8) {
+        0 => r.pick(&[0, 1, 2, 1_023, 1_024]),
+        1 => 256,
+        2 => 64,
+        3 => r.below(100) as usize,
+        _ => 16,
+    }
+}
+
+fn quantize(r: &mut Rng, kind: u32) -> Call {
+    let (dc, ac) = (quantizer(r), quantizer(r));
+    let mut args = vec![dc.into(), ac.into()];
+    if kind == 24 {
+        args.push(r.below(4).into());
+        args.push(r.pick(&DEPTHS).into());
+    }
+    let count = quantizer_length(r);
+    let mut list = coefs(r, count, dc, ac);
+    if count > 0 && r.once_in(16) {
+        let k = r.below(count as u64) as usize;
+        list[k] = beyond(r, COEF);
+    }
+    call(kind, args, vec![list])
+}
+
+fn refused_quantize(r: &mut Rng, kind: u32, wanted: &[u8]) -> Call {
+    let has = |a: u8| wanted.contains(&a);
+    let (mut dc, mut ac) = (quantizer(r), quantizer(r));
+    let count = r.range(1, 20) as usize;
+    let mut list = coefs(r, count, dc, ac);
+    if has(5) {
+        let q = r.pick(&BAD_QUANTS);
+        match r.below(3) {
+            0 => dc = q,
+            1 => ac = q,
+            _ => (dc, ac) = (q, r.pick(&BAD_QUANTS)),
+        }
+        if r.once_in(6) && !has(6) && !has(9) {
+            list.clear(); // refused although the list is empty
+        }
+    }
+    if has(6) {
+        list.resize(r.pick(&[1_025, 1_026, 2_048]), 9);
+    }
+    if has(9) {
+        let k = r.below(list.len() as u64) as usize;
+        list[k] = beyond(r, COEF);
+    }
+    let mut args: Vec<i128> = vec![dc.into(), ac.into()];
+    if kind == 24 {
+        args.push(if has(2) { r.pick(&BAD_SIZES).into() } else { r.below(4).into() });
+        args.push(if has(1) { r.pick(&BAD_DEPTHS).into() } else { r.pick(&DEPTHS).into() });
+    }
+    call(kind, args, vec![list])
+}
+
+fn codeable(r: &mut Rng) -> Call {
+    let depth = match r.below(3) {
+        0 => r.pick(&DEPTHS),
+        1 => r.below(70) as u32,
+        _ => r.next() as u32,
+    };
+    call(26, vec![depth.into()], vec![])
+}
+
+/// The record of the scope document's worked file.
+pub fn example() -> Recon {
+    let mut tokens = vec![0; 16];
+    tokens[0] = 5;
+    let samples = vec![100; 16];
+    Recon { x: 0, y: 0, size: 0, tx_type: 0, lossless: true, depth: 8, dc: 4, ac: 4, width: 4, height: 4, tokens, samples }
+}
+
+// ---- the systematic part ----
+
+/// The numbers that a call can refuse with.
+pub const REFUSALS: [(u32, &[u8]); 6] = [
+    (20, &[2, 3, 4, 6, 9]),
+    (21, &[2, 3, 4, 6, 9]),
+    (22, &[1, 2, 3, 4, 5, 6, 7, 8, 9]),
+    (23, &[6, 9]),
+    (24, &[1, 2, 5, 6, 9]),
+    (25, &[5, 6, 9]),
+];
+
+/// A call to which each of these numbers applies (3 and 4 never do together).
+pub fn refused(r: &mut Rng, kind: u32, wanted: &[u8]) -> Call {
+    match kind {
+        20 | 21 => refused_driver(r, kind, wanted),
+        22 => refused_recon(r, wanted),
+        23 => refused_forward(r, wanted),
+        _ => refused_quantize(r, kind, wanted),
+    }
+}
+
+/// Each of the numbers alone, in pairs, and some in threes.
+fn sets(r: &mut Rng, numbers: &[u8], each: usize, f: &mut dyn FnMut(&mut Rng, &[u8])) {
+    for (i, a) in numbers.iter().enumerate() {
+        for _ in 0..3 * each {
+            f(r, &[*a]);
+        }
+        for b in &numbers[i + 1..] {
+            for _ in 0..each {
+                f(r, &[*a, *b]);
+            }
+            let c = r.pick(numbers);
+            f(r, &[*a, *b, c]);
+        }
+    }
+}
+
+/// The parts under the public calls.
+fn systematic_parts(r: &mut Rng, out: &mut dyn FnMut(Call)) {
+    for bits in 0..6u64 {
+        for x in 0..1u64 << bits {
+            out(call(2, vec![bits.into(), x.into()], vec![]));
+        }
+    }
+    let edges = [i32::MIN, i32::MIN + 1, i32::MIN + 31, i32::MIN + 32, i32::MIN + 33, i32::MAX - 1, i32::MAX];
+    for kind in [3, 4] {
+        for a in (-130..=260).chain(edges) {
+            out(call(kind, vec![a.into()], vec![]));
+        }
+    }
+    for k in 1..=14i64 {
+        let half = 1i64 << (k - 1);
+        for x in [0, 1, -1, half - 1, half, half + 1, -half - 1, -half, -half + 1, 3 * half, -3 * half, 1 << 61, -(1 << 61)] {
+            out(call(1, vec![x.into(), k.into()], vec![]));
+        }
+    }
+    for turn in (0..128).chain(edges) {
+        for flip in 0..2i128 {
+            let (a, b) = pair(r, 32);
+            out(call(5, vec![a, b, turn.into(), flip], vec![t32(r, (a, b))]));
+            let (a, b) = pair(r, 16);
+            out(call(7, vec![a, b, turn.into(), flip], vec![t32(r, (a, b)), s16(r, (a, b))]));
+        }
+    }
+    for (kind, sizes) in [(10, 2..=5u32), (11, 2..=4)] {
+        for n in sizes {
+            for k in 0..side(n) {
+                for v in [1, -1, 1_000, ROW, -ROW] {
+                    let mut t = vec![0; 32];
+                    t[k] = v;
+                    out(call(kind, vec![n.into()], vec![t]));
+                }
+            }
+            for _ in 0..40 {
+                out(call(kind, vec![n.into()], vec![row(r, n)]));
+            }
+        }
+    }
+    for shift in [0, 2] {
+        for k in 0..4 {
+            for v in [1, -1, 2, -2, 3, -3, 5, 100, COEF, -COEF, ROW, -ROW] {
+                let mut t = vec![0; 4];
+                t[k] = v;
+                out(call(12, vec![shift], vec![t]));
+            }
+        }
+    }
+}
+
+/// Every size and type that nothing refuses.
+fn every_block(f: &mut dyn FnMut(u32, u8, bool)) {
+    for n in 2..=5u32 {
+        for tx_type in 0..4u8 {
+            if n < 5 || tx_type == 0 {
+                f(n, tx_type, false);
+            }
+        }
+    }
+    f(2, 0, true);
+    f(2, 255, true);
+}
+
+fn systematic_drivers(r: &mut Rng, out: &mut dyn FnMut(Call)) {
+    for kind in [20, 21] {
+        every_block(&mut |n, tx_type, lossless| {
+            let count = side(n) * side(n);
+            // one coefficient in every place
+            for k in 0..count {
+                let mut block = vec![0; count];
+                let b = bound(r, COEF);
+                block[k] = nonzero(r, b);
+                out(driver_call(kind, n, tx_type, lossless, block));
+            }
+            // the limit and one past it, at the first, the last and some place; the same past the block's end
+            for k in [0, 1, r.below(count as u64) as usize, count - 1] {
+                for v in [COEF, -COEF, COEF + 1, -COEF - 1] {
+                    let mut block = vec![0; count];
+                    block[k] = v;
+                    out(driver_call(kind, n, tx_type, lossless, block));
+                }
+            }
+            for more in [1usize, 7, 100] {
+                let mut block = fill(r, side(n), &|_| 1_000);
+                block.extend((0..more).map(|_| beyond(r, COEF)));
+                out(driver_call(kind, n, tx_type, lossless, block));
+            }
+            // every number at the limit, with signs that make the sums grow
+            for (si, sj) in [(0, 0), (!0, 0), (0x5555_5555, 0), (0, 0x5555_5555), (0x5555_5555, 0x5555_5555u64)] {
+                let block = (0..count)
+                    .map(|k| if (si >> (k / side(n)) ^ sj >> (k % side(n))) & 1 == 1u64 { -COEF } else { COEF })
+                    .collect();
+                out(driver_call(kind, n, tx_type, lossless, block));
+            }
+            for len in [0, 1, count - 1] {
+                out(driver_call(kind, n, tx_type, lossless, vec![3; len]));
+            }
+        });
+    }
+}
+
+fn systematic_recon(r: &mut Rng, out: &mut dyn FnMut(Call)) {
+    every_block(&mut |n, tx_type, lossless| {
+        let size = n - 2;
+        let n0 = side(n) as u64;
+        let count = side(n) * side(n);
+        for depth in DEPTHS {
+            let mut put = |r: &mut Rng, w: u64, h: u64, x: u64, y: u64, dc: i32, ac: i32, tokens: Vec<i64>| {
+                let samples = samples(r, (w * h) as usize, depth);
+                out(Recon { x, y, size, tx_type, lossless, depth, dc, ac, width: w, height: h, tokens, samples }.call());
+            };
+            // the plane cuts the block by each number of columns and rows (at large sizes by some)
+            let step = (n0 as usize / 8).max(1);
+            for keep in (0..=n0 + 1).step_by(step) {
+                let tokens = fill(r, side(n), &|_| 30);
+                put(r, keep + 1, n0, 1, 0, 8, 9, tokens.clone());
+                put(r, n0, keep + 2, 0, 2, 8, 9, tokens.clone());
+                put(r, keep, keep, 0, 0, 8, 9, tokens);
+            }
+            // outside, near and far; no width, no height
+            for x in [6, 7, 65_535, 1 << 33, u64::MAX] {
+                put(r, 6, 5, x, 0, 4, 4, vec![9; count]);
+                put(r, 6, 5, 0, x, 4, 4, vec![9; count]);
+                put(r, 6, 5, x, x, 4, 4, vec![9; count]);
+            }
+            put(r, 0, 5, 0, 0, 4, 4, vec![1; count]);
+            put(r, 5, 0, 0, 0, 4, 4, vec![1; count]);
+            put(r, 0, 0, 0, 0, 4, 4, vec![1; count]);
+            // a zero residual: samples above the depth are clipped all the same
+            for _ in 0..4 {
+                put(r, n0, 3, 0, 0, 4, 4, vec![0; count]);
+            }
+            // the codeable limit, the product's limit and one past each, at place 0 and elsewhere
+            for k in [0, 1, count - 1] {
+                for q in [1, 4, 7, 8_159, 8_160, 16_318, 16_319, 32_767] {
+                    let most = token_bound(size, depth, q);
+                    for t in [most, -most, most + 1, -most - 1] {
+                        let mut tokens = vec![0; count];
+                        tokens[k] = t;
+                        let (dc, ac) = if k == 0 { (q, 5) } else { (5, q) };
+                        put(r, 4, 4, 0, 0, dc, ac, tokens);
+                    }
+                }
+            }
+        }
+        // one token in every place
+        for k in 0..count {
+            let depth = r.pick(&DEPTHS);
+            let (dc, ac) = (quantizer(r), quantizer(r));
+            let mut tokens = vec![0; count];
+            let b = bound(r, token_bound(size, depth, if k == 0 { dc } else { ac }));
+            tokens[k] = nonzero(r, b);
+            let samples = samples(r, count, depth);
+            out(Recon { x: 0, y: 0, size, tx_type, lossless, depth, dc, ac, width: n0, height: n0, tokens, samples }.call());
+        }
+    });
+    // the widest plane, and one wider
+    for (w, h) in [(65_535, 1), (1, 65_535), (65_536, 1), (1, 65_536)] {
+        let (x, y) = (w - 1, h - 1);
+        let samples = vec![50; (w * h) as usize];
+        out(Recon {
+            x,
+            y,
+            size: 0,
+            tx_type: 0,
+            lossless: false,
+            depth: 8,
+            dc: 64,
+            ac: 9,
+            width: w,
+            height: h,
+            tokens: vec![4; 16],
+            samples,
+        }
+        .call());
+    }
+}
+
+fn systematic_coder(out: &mut dyn FnMut(Call)) {
+    for k in 0..16 {
+        for v in [1, -1, 2, -3, 5, FORWARD, -FORWARD, FORWARD + 1, -FORWARD - 1, i64::MIN] {
+            let mut block = vec![0; 16];
+            block[k] = v;
+            out(call(23, vec![], vec![block]));
+        }
+    }
+    for len in [0usize, 1, 4, 15, 17, 32] {
+        out(call(23, vec![], vec![vec![2; len]]));
+    }
+    for s in 0..16u64 {
+        let block = (0..16).map(|k| if (s >> (k % 4) ^ s >> (k / 4)) & 1 == 1 { -FORWARD } else { FORWARD }).collect();
+        out(call(23, vec![], vec![block]));
+    }
+
+    for size in 0..4i128 {
+        for depth in DEPTHS {
+            // small quantizers against every small coefficient, halves among them
+            for q in [1, 2, 3, 4, 5, 7, 8, 32_767i128] {
+                let list: Vec<i64> = (-12..=12).collect();
+                out(call(24, vec![q, q, size, depth.into()], vec![list.clone()]));
+                if size == 0 && depth == 8 {
+                    out(call(25, vec![q, q], vec![list]));
+                }
+                // a half, the cap and the limit, at place 0 and elsewhere
+                let top = rules::codeable(depth) * q as i64;
+                let mut list = vec![];
+                for v in [16_383, 16_384, 49_150, top, top + 1, COEF] {
+                    list.push(v.min(COEF));
+                    list.push(-v.min(COEF));
+                }
+                out(call(24, vec![q, 3, size, depth.into()], vec![list.clone()]));
+                out(call(24, vec![3, q, size, depth.into()], vec![list]));
+            }
+            for len in [0usize, 1, 2, 16, 64, 256, 1_023, 1_024, 1_025] {
+                out(call(24, vec![4, 9, size, depth.into()], vec![vec![-31; len]]));
+                if size == 0 {
+                    out(call(25, vec![4, 9], vec![vec![-31; len]]));
+                }
+            }
+            for k in [0usize, 1, 15] {
+                for v in [COEF, -COEF, COEF + 1, -COEF - 1, i64::MAX, i64::MIN] {
+                    let mut list = vec![0; 16];
+                    list[k] = v;
+                    out(call(24, vec![2, 3, size, depth.into()], vec![list.clone()]));
+                    if size == 0 {
+                        out(call(25, vec![2, 3], vec![list]));
+                    }
+                }
+            }
+        }
+    }
+    for depth in (0..70).chain([255, 65_535, u32::MAX - 1, u32::MAX]) {
+        out(call(26, vec![depth.into()], vec![]));
+    }
+}
+
+/// The numbers that the scope document itself works out.
+pub fn worked(out: &mut dyn FnMut(Call)) {
+    for (bits, x) in [(5, 1), (3, 6)] {
+        out(call(2, vec![bits, x], vec![]));
+    }
+    for angle in [100, 65, -32] {
+        out(call(3, vec![angle], vec![]));
+    }
+    for angle in [32, i128::from(i32::MIN)] {
+        out(call(4, vec![angle], vec![]));
+    }
+    out(call(12, vec![0], vec![vec![5, 0, 0, 0]]));
+    for kind in [20, 21] {
+        for v in [16, 14, -16, 32] {
+            let mut block = vec![0; 16];
+            block[0] = v;
+            out(driver_call(kind, 2, 0, false, block));
+        }
+    }
+    out(example().call());
+    let one = |size: u32, k: usize, token: i64, dc: i32, ac: i32| {
+        let mut tokens = vec![0; rules::area(size)];
+        tokens[k] = token;
+        let samples = vec![100; 16];
+        Recon { x: 0, y: 0, size, tx_type: 0, lossless: false, depth: 8, dc, ac, width: 4, height: 4, tokens, samples }
+    };
+    for t in [5, -5] {
+        out(one(3, 0, t, 7, 1).call());
+        out(one(3, 1, t, 1, 7).call());
+    }
+    for (size, q) in [(0, 8_159), (0, 8_160), (3, 16_318), (3, 16_319)] {
+        out(one(size, 1, 16_450, 1, q).call());
+        out(one(size, 1, 16_451, 1, q).call());
+    }
+    for x in [4, 6] {
+        let mut c = one(0, 0, 40, 16, 16);
+        (c.x, c.y, c.width, c.height, c.samples) = (x, 3, 6, 5, (100..130).collect());
+        out(c.call());
+    }
+    for (kind, q, list) in [(24, 4, vec![2, 3, 6, 7]), (25, 4, vec![2, 3, 6, 7])] {
+        let mut args = vec![q, q];
+        if kind == 24 {
+            args.extend([0, 8]);
+        }
+        out(call(kind, args, vec![list]));
+    }
+    out(call(24, vec![3, 3, 3, 8], vec![vec![2]]));
+    for depth in DEPTHS {
+        out(call(26, vec![depth.into()], vec![]));
+    }
+    out(files::as_call(&files::worked()));
+}
+
+/// Each call that the scope document or the form of the code singles out.
+pub fn systematic(r: &mut Rng, out: &mut dyn FnMut(Call)) {
+    worked(out);
+    systematic_parts(r, out);
+    systematic_drivers(r, out);
+    systematic_recon(r, out);
+    systematic_coder(out);
+    for (kind, numbers) in REFUSALS {
+        sets(r, numbers, 5, &mut |r, wanted| out(refused(r, kind, wanted)));
+    }
+    files::systematic(r, &mut |f| {
+        if f.len() <= LINE_FILE {
+            out(files::as_call(&f));
+        }
+    });
+}
+
+fn file(r: &mut Rng) -> Call {
+    loop {
+        let f = files::random(r, true);
+        if f.len() <= LINE_FILE {
+            return files::as_call(&f);
+        }
+    }
+}
+
+/// One random call. Most are of the calls that do the work.
+pub fn random(r: &mut Rng) -> Call {
+    match r.below(100) {
+        0 => round2(r),
+        1 => brev(r),
+        2 => call(r.pick(&[3, 4]), vec![angle(r)], vec![]),
+        3 => butterfly(r),
+        4 => hadamard(r),
+        5 => sb(r),
+        6 => sh(r),
+        7..=13 => dct(r),
+        14..=20 => adst(r),
+        21..=23 => wht(r),
+        24..=40 => driver(r, 20),
+        41..=51 => driver(r, 21),
+        52..=75 => recon(r),
+        76..=79 => forward(r),
+        80..=85 => quantize(r, 24),
+        86..=88 => quantize(r, 25),
+        89 => codeable(r),
+        90..=93 => file(r),
+        _ => {
+            let (kind, numbers) = r.pick(&REFUSALS);
+            let wanted: Vec<u8> = (0..r.range(1, 3)).map(|_| r.pick(numbers)).collect();
+            refused(r, kind, &wanted)
+        }
+    }
+}

@@ -1,0 +1,155 @@
+//! The fixed lists: some hundred calls of each kind, short enough to be read.
+
+use crate::line::{self, Call, Outcome};
+use crate::rng::Rng;
+use crate::{ask, cases};
+use std::collections::BTreeMap;
+use std::io::Write;
+use std::path::Path;
+
+/// What a call of the list stands for; the same number of each is kept.
+fn class(c: &Call, o: &Outcome) -> Vec<i128> {
+    let answer = o.nums.first().copied().unwrap_or(0);
+    let small = |v: i128| v.clamp(0, 9);
+    match c.kind {
+        5 | 7 => vec![c.args[2].rem_euclid(128) / 8, c.args[3]],
+        10..=12 => vec![c.args[0]],
+        20 | 21 if answer == 0 => vec![0, c.args[0], if c.args[2] == 1 { 9 } else { c.args[1] }],
+        20 | 21 => vec![answer, small(c.args[0])],
+        22 if answer == 0 => {
+            let (n0, w, h) = (4i128 << c.args[2], c.args[8], c.args[9]);
+            let outside = c.args[0] >= w || c.args[1] >= h;
+            let cut = c.args[0] + n0 > w || c.args[1] + n0 > h;
+            let kind = if c.args[4] == 1 { 9 } else { c.args[3] };
+            vec![0, c.args[2], kind, c.args[5], i128::from(cut) + i128::from(outside)]
+        }
+        22 => vec![answer, small(c.args[2]), small(c.args[5])],
+        24 if answer == 0 => vec![0, c.args[2], c.args[3]],
+        23..=25 => vec![answer],
+        30 => {
+            // the header's answer, and which answers its records have
+            let mut set: Vec<i64> = o.lists[0].clone();
+            set.sort();
+            set.dedup();
+            std::iter::once(answer).chain(set.into_iter().map(i128::from)).collect()
+        }
+        _ => vec![],
+    }
+}
+
+/// The longest line that a list of this kind takes, and how many calls of one class.
+fn room(c: &Call, o: &Outcome) -> (usize, usize) {
+    let answer = o.nums.first().copied().unwrap_or(0);
+    match c.kind {
+        1..=4 | 26 => (100, 120),
+        5 | 7 => (260, 4),
+        6 | 8 => (260, 60),
+        10 | 11 => (220, 50),
+        12 => (100, 60),
+        20 | 21 if answer == 0 => match c.args[0] {
+            2 => (300, 20),
+            3 => (600, 14),
+            4 => (1_600, 6),
+            _ => (5_000, 8),
+        },
+        22 if answer == 0 => match c.args[2] {
+            0 => (300, 4),
+            1 => (600, 3),
+            2 => (1_600, 1),
+            _ => (3_000, 3),
+        },
+        20 | 21 => (300, 3),
+        22 => (300, 2),
+        23 if answer == 0 => (300, 150),
+        24 if answer == 0 => (250, 12),
+        25 if answer == 0 => (250, 100),
+        23..=25 => (250, 12),
+        _ => (600, 5),
+    }
+}
+
+fn files() -> Vec<(&'static str, Vec<u32>)> {
+    vec![
+        ("parts", vec![1, 2, 3, 4, 5, 6, 7, 8]),
+        ("rows", vec![10, 11, 12]),
+        ("driver", vec![20]),
+        ("reference", vec![21]),
+        ("reconstruct", vec![22]),
+        ("coder", vec![23, 24, 25, 26]),
+        ("vbk", vec![30]),
+    ]
+}
+
+pub fn write_all(seed: u64, dir: &Path) {
+    let mut kept: BTreeMap<(u32, Vec<i128>), Vec<Vec<u8>>> = BTreeMap::new();
+    let mut seen: BTreeMap<(u32, Vec<i128>), u64> = BTreeMap::new();
+    let mut worked: BTreeMap<u32, Vec<Vec<u8>>> = BTreeMap::new();
+    cases::worked(&mut |c| worked.entry(c.kind).or_default().push(line::write(&c, &ask::ask(&c))));
+    let mut r = Rng::new(seed);
+    // every refusal alone and in pairs
+    for (kind, numbers) in cases::REFUSALS {
+        for (i, a) in numbers.iter().enumerate() {
+            for b in &numbers[i..] {
+                let line = (0..500).find_map(|_| {
+                    let c = cases::refused(&mut r, kind, &[*a, *b]);
+                    let o = ask::ask(&c);
+                    let text = line::write(&c, &o);
+                    (o.nums[0] == i128::from(*a) && text.len() < 300).then_some(text)
+                });
+                worked.entry(kind).or_default().extend(line);
+            }
+        }
+    }
+    crate::every_case(seed, 60_000, &mut |c| {
+        let o = ask::ask(&c);
+        let (longest, quota) = room(&c, &o);
+        let text = line::write(&c, &o);
+        if text.len() > longest {
+            return;
+        }
+        // a fair choice among all calls of the class
+        let key = (c.kind, class(&c, &o));
+        let n = seen.entry(key.clone()).or_insert(0);
+        *n += 1;
+        let list = kept.entry(key).or_default();
+        if list.contains(&text) || worked.get(&c.kind).is_some_and(|w| w.contains(&text)) {
+            return;
+        }
+        if list.len() < quota {
+            list.push(text);
+        } else {
+            let k = r.below(*n) as usize;
+            if k < quota {
+                list[k] = text;
+            }
+        }
+    });
+    std::fs::create_dir_all(dir).expect("the folder");
+    for (name, kinds) in files() {
+        let mut out = std::io::BufWriter::new(std::fs::File::create(dir.join(format!("{name}.txt"))).expect("a list"));
+        writeln!(out, "# The Rust's answers, by oracle/make-lists {seed}. The form of a line: oracle/README.md.").unwrap();
+        for kind in kinds {
+            let shape = line::shape(kind).expect("a kind");
+            let lines: Vec<&Vec<u8>> = kept.iter().filter(|(k, _)| k.0 == kind).flat_map(|(_, l)| l).collect();
+            let lists = |l: &[&str]| l.iter().map(|n| format!(" [{n}]")).collect::<String>();
+            let plain = |l: &[&str]| l.iter().map(|n| format!(" {n}")).collect::<String>();
+            let after = shape.after.len();
+            writeln!(
+                out,
+                "# kind {kind} {}: {kind}{}{} ->{}{}",
+                shape.name,
+                plain(shape.args),
+                lists(shape.lists),
+                plain(shape.nums),
+                " [afterwards]".repeat(after)
+            )
+            .unwrap();
+            let first = worked.get(&kind).map(Vec::as_slice).unwrap_or(&[]);
+            for l in first.iter().chain(lines.iter().copied()) {
+                out.write_all(l).unwrap();
+                out.write_all(b"\n").unwrap();
+            }
+            println!("{name}: kind {kind:2} {:31} {} calls", shape.name, first.len() + lines.len());
+        }
+    }
+}

@@ -1,0 +1,144 @@
+//! A VBK file: reading by the scope document's order of checks, with the Rust at work on each accepted record.
+
+use crate::{intra, reconstruct, rules};
+
+pub struct Replay {
+    /// 0, or the number of the header's refusal; with a refusal nothing else counts.
+    pub header: u8,
+    pub version: u16,
+    pub depth: u8,
+    pub width: u16,
+    pub height: u16,
+    pub answers: Vec<u8>,
+    pub samples: Vec<u16>,
+    pub touched: u64,
+}
+
+fn u16_at(b: &[u8], i: usize) -> u16 {
+    u16::from_le_bytes([b[i], b[i + 1]])
+}
+
+fn refused(header: u8) -> Replay {
+    Replay { header, version: 0, depth: 0, width: 0, height: 0, answers: vec![], samples: vec![], touched: 0 }
+}
+
+pub fn replay(file: &[u8]) -> Replay {
+    if file.len() > rules::FILE_MAX {
+        return refused(13);
+    }
+    if file.len() < 10 {
+        return refused(12);
+    }
+    if &file[..3] != b"VBK" {
+        return refused(10);
+    }
+    let version = u16_at(file, 3);
+    if version != 1 {
+        return refused(11);
+    }
+    let depth = file[5];
+    if !rules::good_depth(depth.into()) {
+        return refused(1);
+    }
+    let (width, height) = (u16_at(file, 6), u16_at(file, 8));
+    let count = width as usize * height as usize;
+    if !(1..=rules::FILE_SAMPLES).contains(&count) {
+        return refused(13);
+    }
+    let mut at = 10 + 2 * count;
+    if file.len() < at {
+        return refused(12);
+    }
+    let mut plane = intra::Plane::new(width.into(), height.into());
+    for (k, s) in plane.samples_mut().iter_mut().enumerate() {
+        *s = u16_at(file, 10 + 2 * k);
+    }
+
+    let mut answers = vec![];
+    let mut touched = 0;
+    while at < file.len() {
+        if file.len() - at < 11 {
+            answers.push(12);
+            break;
+        }
+        let head = &file[at..at + 11];
+        let size = u32::from(head[4]);
+        if size > 3 {
+            answers.push(2);
+            break;
+        }
+        let area = rules::area(size);
+        if file.len() - at - 11 < 4 * area {
+            answers.push(12);
+            break;
+        }
+        let tokens: Vec<i64> = (0..area)
+            .map(|k| {
+                let p = at + 11 + 4 * k;
+                i64::from(i32::from_le_bytes([file[p], file[p + 1], file[p + 2], file[p + 3]]))
+            })
+            .collect();
+        at += 11 + 4 * area;
+        if head[6] > 1 {
+            answers.push(14);
+            continue;
+        }
+        let (x, y) = (u16_at(head, 0), u16_at(head, 2));
+        let (dc, ac) = (i32::from(u16_at(head, 7)), i32::from(u16_at(head, 9)));
+        let (tx_type, lossless) = (head[5], head[6] == 1);
+        let answer = rules::reconstruct(&rules::Recon {
+            x: x.into(),
+            y: y.into(),
+            size,
+            tx_type,
+            lossless,
+            depth: depth.into(),
+            dc,
+            ac,
+            width: width.into(),
+            height: height.into(),
+            tokens: &tokens,
+            samples: count,
+        });
+        if answer == 0 {
+            reconstruct::reconstruct_block(
+                &mut plane,
+                x.into(),
+                y.into(),
+                size,
+                &tokens,
+                dc,
+                ac,
+                tx_type,
+                lossless,
+                depth.into(),
+            );
+            touched += area as u64;
+        }
+        answers.push(answer);
+    }
+    Replay { header: 0, version, depth, width, height, answers, samples: plane.samples().to_vec(), touched }
+}
+
+/// What the program `blockrun` prints for it.
+pub fn text(r: &Replay) -> String {
+    use std::fmt::Write;
+    let mut s = String::new();
+    if r.header != 0 {
+        writeln!(s, "E {}", r.header).unwrap();
+        return s;
+    }
+    writeln!(s, "VBK {} {} {} {}", r.version, r.depth, r.width, r.height).unwrap();
+    for (i, a) in r.answers.iter().enumerate() {
+        writeln!(s, "B {i} {a}").unwrap();
+    }
+    for row in r.samples.chunks(r.width.into()) {
+        s.push('S');
+        for v in row {
+            write!(s, " {v}").unwrap();
+        }
+        s.push('\n');
+    }
+    writeln!(s, "T {}", r.touched).unwrap();
+    s
+}
