@@ -1,10 +1,8 @@
 ghost use mathlib.Core.Path.{_≡_};
 ghost use Prim.Native.Nat.{ℕ, _+_, _^_, _≤_, _<_};
-ghost use lib.IntN.{pos};
+ghost use lib.ListN.{length, getD};
 ghost use Rattle.whole.specs.Within.{Within};
 ghost use Rattle.primitives.specs.Rotations.{turnX, turnY};
-ghost use Rattle.primitives.specs.Brev.{Brev};
-ghost use Rattle.flat.specs.Reverses.{Reverses};
 ghost use Rattle.steps.specs.Step.{Bf, Hd, Move, step, Fine};
 ghost use Rattle.whole.specs.Steps.{run, Ok};
 ghost use Rattle.dct.specs.Dct.{tail, dctRow, dct};
@@ -236,14 +234,14 @@ fn fb(t: &mut [i64; 32], a: usize, b: usize, angle: i32, flip: bool)
     }
 }
 
-// The permutation: t[i] = copy_t[brev(n, i)], with the table lent, since it folds away only where it is whole in the caller.
-fn permute(t: &mut [i64; 32], brev: &[usize; 192], n: usize, n0: usize)
-    requires { ⌜ (n ≤ 5) × (n0 ≤ 32) × (n0 ≡ 2 ^ n) × Reverses n (now brev) ⌝ }
-    ensures { λ _. ⌜ now (t .exit) ≡ step (Move (2 ^ n) (Brev n)) (now (t .entry)) ⌝ }
+// t[i] = copy_t[from[at + i]] for i below n0. The table is lent: it folds away where the caller has it whole.
+fn reorder(t: &mut [i64; 32], from: &[usize], at: usize, n0: usize)
+    requires { ⌜ (n0 ≤ 32) × (at + n0 ≤ length (now from)) × ((i : ℕ) → i < n0 → getD (now from) (at + i) 0 < 32) ⌝ }
+    ensures { λ _. ⌜ now (t .exit) ≡ step (Move n0 (λ i. getD (now (from .entry)) (at + i) 0)) (now (t .entry)) ⌝ }
 {
     let copy_t = *t;
     for i in 0..n0 {
-        t[i] = copy_t[brev[32 * n + i]];
+        t[i] = copy_t[from[at + i]];
     }
 }
 
@@ -385,7 +383,7 @@ pub fn idct_fast2(t: &mut [i64; 32])
     ensures { λ _. ⌜ now (t .exit) ≡ dct 2 (now (t .entry)) ⌝ }
 {
     let brev = BREV;
-    permute(t, &brev, 2, 4);
+    reorder(t, &brev, 64, 4);
     fb(t, 0, 1, 16, true);
     dct_level2(t);
 }
@@ -396,7 +394,7 @@ pub fn idct_fast3(t: &mut [i64; 32])
     ensures { λ _. ⌜ now (t .exit) ≡ dct 3 (now (t .entry)) ⌝ }
 {
     let brev = BREV;
-    permute(t, &brev, 3, 8);
+    reorder(t, &brev, 96, 8);
     fb(t, 0, 1, 16, true);
     dct_level2(t);
     dct_level3(t);
@@ -408,7 +406,7 @@ pub fn idct_fast4(t: &mut [i64; 32])
     ensures { λ _. ⌜ now (t .exit) ≡ dct 4 (now (t .entry)) ⌝ }
 {
     let brev = BREV;
-    permute(t, &brev, 4, 16);
+    reorder(t, &brev, 128, 16);
     fb(t, 0, 1, 16, true);
     dct_level2(t);
     dct_level3(t);
@@ -421,7 +419,7 @@ pub fn idct_fast5(t: &mut [i64; 32])
     ensures { λ _. ⌜ now (t .exit) ≡ dct 5 (now (t .entry)) ⌝ }
 {
     let brev = BREV;
-    permute(t, &brev, 5, 32);
+    reorder(t, &brev, 160, 32);
     fb(t, 0, 1, 16, true);
     dct_level2(t);
     dct_level3(t);
