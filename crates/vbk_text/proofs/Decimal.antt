@@ -20,8 +20,8 @@ enough zero (suc m) n p q = sym (rw (lt-ltb n 10 (omega arith)))
 enough (suc k) zero n p q = rw (lt-ltb n 10 (omega arith))
 enough (suc k) (suc m) n p q =
     by-size (ltb n 10) _ _ _ (λ f.
-      let h : 10 ≤ n = ltb-false n 10 f in
-      ap (λ (l : List ℕ). l ++ ((48 + n % 10) ∷ [])) (enough k m (n / 10) (omega arith) (omega arith)))
+    let h : 10 ≤ n = ltb-false n 10 f in
+    ap (λ (l : List ℕ). l ++ ((48 + n % 10) ∷ [])) (enough k m (n / 10) (omega arith) (omega arith)))
 
 pub decimal-one : (n : ℕ) → n < 10 → decimal n ≡ (48 + n) ∷ []
 unfolding decimal

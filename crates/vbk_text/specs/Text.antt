@@ -54,3 +54,7 @@ text (ran version depth width height answers plane touched) =
     ⨾ each (length answers) (answerLine answers)
     ⨾ each height (rowLine plane width)
     ⨾ touchedLine touched
+
+-- no run's text is longer; the code's constant of the same name is this number
+abbrev pub TEXT_LIMIT : ℕ
+TEXT_LIMIT = 45040

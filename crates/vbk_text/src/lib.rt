@@ -8,6 +8,9 @@ ghost use Rattle.vbk_text.specs.Decimal.{decimal};
 ghost use Rattle.vbk_text.specs.Text.{word, numberLine, headerLine, answerLine, samplesFrom, rowLine, refused, ran, text};
 ghost use Rattle.vbk_text.specs.Writing.{Room, Put};
 
+// No run's text is longer.
+pub const TEXT_LIMIT: usize = 45040;
+
 fn put_byte(out: &mut [u8], at: usize, b: u8) -> usize
     requires { ⌜ Room (now out) at (b ∷ []) ⌝ }
     ensures { λ r. ⌜ Put (now (out .entry)) at (b ∷ []) r (now (out .exit)) ⌝ }
@@ -55,14 +58,7 @@ fn put_number(out: &mut [u8], at: usize, letter: u8, n: u64) -> usize
 }
 
 // `VBK version depth width height`
-fn put_header(
-    out: &mut [u8],
-    at: usize,
-    version: u64,
-    depth: u64,
-    width: u64,
-    height: u64,
-) -> usize
+fn put_header(out: &mut [u8], at: usize, version: u64, depth: u64, width: u64, height: u64) -> usize
     requires { ⌜ Room (now out) at (headerLine version depth width height) ⌝ }
     ensures { λ r. ⌜ Put (now (out .entry)) at (headerLine version depth width height) r (now (out .exit)) ⌝ }
 {
