@@ -4,7 +4,7 @@ use mathlib.Core.Bool.{Bool, cond, true}
 use mathlib.Core.List.{List, [], _∷_}
 use Prim.Native.Nat.{ℕ, zero, suc, _+_, _*_, _^_, _≤_, _<_}
 use native.Mathlib.Omega.{arith}
-use lib.Dec.{T, leb, ltb, eqb, eqb→eq}
+use lib.Dec.{T, leb, ltb, ltb→lt, eqb, eqb→eq}
 use lib.IntN.{ℤ, pos}
 use lib.ListN.{getD, set}
 use borrow.Author.Tests.{le-leb, lt-ltb}
@@ -14,6 +14,10 @@ use Rattle.whole.proofs.Tests.{below}
 use Rattle.primitives.specs.Brev.{Brev}
 use Rattle.primitives.proofs.Reversal.{brev-lt}
 use Rattle.steps.specs.Step.{Move, step}
+
+-- n entries of a table from place a on are places of t
+pub places : (table : List ℕ) (a n : ℕ) → T (allBelow n (λ i. ltb (getD table (a + i) 0) 32)) → (i : ℕ) → i < n → getD table (a + i) 0 < 32
+places table a n t i h = ltb→lt (getD table (a + i) 0) 32 (below n (λ j. ltb (getD table (a + j) 0) 32) t i h)
 
 same-fill : (k : ℕ) (f g : ℕ → ℤ) (u : List ℤ) → ((i : ℕ) → i < k → f i ≡ g i) → fill k f u ≡ fill k g u
 unfolding fill
