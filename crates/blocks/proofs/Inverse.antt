@@ -24,7 +24,7 @@ use Rattle.blocks.proofs.Places.{in-row, in-column, le-or-lt, by-place}
 use Rattle.blocks.proofs.Lines.{line-length, line-at, fill-length, fill-at, fill-past, on-still}
 use Rattle.blocks.proofs.Live.{dead-at}
 use Rattle.blocks.proofs.Blocks.{anew-length, anew-at, anew-past, block-ext, rows-length, rows-at, rows-past, columns-length, columns-at, columns-past}
-use Rattle.blocks.proofs.Passes.{Valid, first-each, each-first, pass-zeros, pass-row, pass-column, row-valid, column-valid}
+use Rattle.blocks.proofs.Passes.{Valid, first-each, each-first, pass-row, pass-column, row-valid, column-valid}
 
 -- ---- number by number
 module _ (n type : ℕ) (lossless : Bool) (s : List ℤ) where
@@ -110,15 +110,15 @@ inverse2d-within n type lossless s q room b =
     }
 
 -- ---- ZERO ROWS: a row of zeros stays as it is, whatever the pass
-pub zero-row : (shift : ℕ) (p : Pass) (n : ℕ) → Valid shift p n → 2 ^ n ≤ 32 → (start : ℕ) (s : List ℤ) → live start (2 ^ n) s ≡ false
+pub zero-row : (p : Pass) (n : ℕ) → ((t : List ℤ) → Zeros (2 ^ n) t → apply p n t ≡ t) → 2 ^ n ≤ 32 → (start : ℕ) (s : List ℤ) → live start (2 ^ n) s ≡ false
     → on (apply p n) (λ z. z) start 1 (2 ^ n) s ≡ s
-zero-row shift p n v h start s e =
+zero-row p n f h start s e =
     let t = line start 1 (2 ^ n) s in
     let z : Zeros (2 ^ n) t = record {
       long = rw (line-length start 1 (2 ^ n) s) h;
       zeros = λ k l. line-at start 1 (2 ^ n) s k h l ∙ rw (NatL.mul-one k) (dead-at start (2 ^ n) s e k l);
     } in
-    on-still (apply p n) (λ z. z) start 1 (2 ^ n) s h (λ k l. ap (λ (u : List ℤ). getD u k (pos 0)) (pass-zeros shift p n v z))
+    on-still (apply p n) (λ z. z) start 1 (2 ^ n) s h (λ k l. ap (λ (u : List ℤ). getD u k (pos 0)) (f t z))
 
 -- ---- DC-ONLY: where all but place 0 is 0, type 0 gives one number everywhere
 module _ (n : ℕ) (l : 2 ≤ n) (h : n ≤ 5) (s : List ℤ) (room : 2 ^ n * 2 ^ n ≤ length s) (dead : live 1 (2 ^ n * 2 ^ n - 1) s ≡ false) where

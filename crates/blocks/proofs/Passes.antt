@@ -72,6 +72,11 @@ lossy-valid shift true n l h f = (l, h)
 lossy-valid shift false n l h f =
     (l, ⊎-elim (λ (e : n ≡ 5). let q : false ≡ true = f e in let z : _≡_ {A = ℕ} 0 1 = cc in omega arith) (λ (k : n < 5). omega arith) (eq-or-lt-of-le h))
 
+-- up to 16 numbers, either
+pub small-valid : (shift : ℕ) (b : Bool) (n : ℕ) → 2 ≤ n → n ≤ 4 → Valid shift (lossy b) n
+small-valid shift true n l h = (l, omega arith)
+small-valid shift false n l h = (l, h)
+
 pub row-valid : (n type : ℕ) (lossless : Bool) → Possible n type lossless → Valid 2 (rowPass type lossless) n
 row-valid n type true h = (h .small refl, refl)
 row-valid n type false h = lossy-valid 2 (eqb type 0 || eqb type 1) n (h .least) (h .most) (λ e. rw (h .large refl e))

@@ -13,6 +13,7 @@ use Rattle.whole.specs.Within.{Within}
 use Rattle.whole.proofs.Loops.{times-none, times-more}
 use Rattle.whole.proofs.Within.{within-le}
 use Rattle.steps.specs.Places.{Stays}
+use Rattle.steps.specs.Shapes.{Zeros}
 use Rattle.blocks.specs.Block.{line, rows, columns, put, on, live, FirstWithin}
 use Rattle.blocks.specs.Inverse.{Pass, apply, Safe}
 use Rattle.blocks.proofs.Places.{in-row, in-column}
@@ -29,6 +30,7 @@ pub record Job (p : Pass) (n : ℕ) (r : ℤ → ℤ) (base : ℕ → ℕ) (step
   pub safe : (i : ℕ) → i < 2 ^ n → Safe p n (line (base i) step (2 ^ n) s₀)
   pub grown : (i : ℕ) → i < 2 ^ n → FirstWithin (2 ^ 43) (2 ^ n) (apply p n (line (base i) step (2 ^ n) s₀))
   pub stays : (t : List ℤ) → Stays (2 ^ n) t (apply p n t)
+  pub zeros : (t : List ℤ) → Zeros (2 ^ n) t → apply p n t ≡ t
   pub whole : times (2 ^ n) (λ i. on (apply p n) r (base i) step (2 ^ n)) s₀ ≡ g
 
 -- all rows of a block within 2^31, and all columns of a block within 2^37
@@ -41,6 +43,7 @@ rows-job p n s₀ l h v room b = record {
   safe = row-safe n l h p s₀ room v b;
   grown = row-grown n l h p s₀ room v b;
   stays = pass-stays 2 p n v;
+  zeros = λ t z. pass-zeros 2 p n v z;
   whole = rows-loop (apply p n) (2 ^ n) s₀ room;
 }
 
@@ -53,6 +56,7 @@ columns-job p n r s₀ l h v room b = record {
   safe = column-safe n l h p s₀ room v b;
   grown = column-grown n l h p s₀ room v b;
   stays = pass-stays 0 p n v;
+  zeros = λ t z. pass-zeros 0 p n v z;
   whole = columns-loop (apply p n) r (2 ^ n) s₀ room;
 }
 
@@ -105,12 +109,12 @@ module _ {p : Pass} {n : ℕ} {r : ℤ → ℤ} {base : ℕ → ℕ} {step : ℕ
   turn-done l = turn .done ∙ ap (λ (k : ℕ). times k (λ i. on (apply p n) r (base i) step (2 ^ n)) s₀) (le-antisymm (turn .count) l) ∙ job .whole
 
 -- a row of zeros is passed over
-pub turn-skip : {p : Pass} {n : ℕ} {base : ℕ → ℕ} {s₀ s t : List ℤ} {i : ℕ} → Valid 2 p n → 2 ^ n ≤ 32 → Turn p n (λ z. z) base 1 s₀ s t i → i < 2 ^ n
+pub turn-skip : {p : Pass} {n : ℕ} {base : ℕ → ℕ} {s₀ g s t : List ℤ} {i : ℕ} → Job p n (λ z. z) base 1 s₀ g → Turn p n (λ z. z) base 1 s₀ s t i → i < 2 ^ n
     → live (base i) (2 ^ n) s ≡ false → Turn p n (λ z. z) base 1 s₀ s t (i + 1)
-turn-skip {p} {n} {base} {s₀} {s} {t} {i} v h turn hi e =
+turn-skip {p} {n} {base} {s₀} {g} {s} {t} {i} job turn hi e =
     record {
       count = omega arith;
-      done = times-more _ i s₀ (turn .done) (sym (zero-row 2 p n v h (base i) s e));
+      done = times-more _ i s₀ (turn .done) (sym (zero-row p n (job .zeros) (job .short) (base i) s e));
       long = turn .long;
       wide = turn .wide;
       clean = turn .clean;
