@@ -1,11 +1,12 @@
 -- A run over a VBK file: the header, then record after record until the reading ends. s is the file's bytes; reconstruction R is a parameter.
 use mathlib.Core.Path.{_≡_}
 use mathlib.Core.Bool.{Bool, cond}
-use mathlib.Core.List.{List, [], _∷_}
-use Prim.Native.Nat.{ℕ, zero, suc, _+_}
+use mathlib.Core.List.{List, [], _∷_, _++_}
+use Prim.Native.Nat.{ℕ, zero, suc, _+_, _*_, _≤_}
 use lib.Dec.{leb, ltb, eqb}
 use lib.IntN.{ℤ, pos}
-use lib.ListN.{length}
+use lib.ListN.{length, drop}
+use Rattle.answers.specs.Limits.{FILE_LIMIT}
 use Rattle.vbk_read.specs.Header.{versionOf, depthOf, widthOf, heightOf, planeOf, firstRecord, headerAnswer}
 use Rattle.vbk_read.specs.Records.{sizeAt, losslessAt, headAt, tokenCount, tokensAt, nextAt, endAnswer, ends}
 use Rattle.vbk_text.specs.Text.{Outcome, refused, ran}
@@ -33,16 +34,33 @@ abbrev pub andThen : ℕ → ℕ → After → After
 andThen answer touched rest =
     record { answers = answer ∷ rest .answers; plane = rest .plane; touched = touched + rest .touched }
 
+-- no file has more records: the first one stands at byte 12 or later, and all but the last take 75 bytes or more
+abbrev pub RECORD_LIMIT : ℕ
+RECORD_LIMIT = 874
+
+-- the records' outcome as the code hands it back: how many they are, the touched count, the answers at the front of the room for them, and the plane.
+-- The last two lines say how large the counts can be
+pub record Ran (a : After) (count touched : ℕ) (room answers samples : List ℕ) : Type 0 where
+  pub count-is : count ≡ length (a .answers)
+  pub touched-is : touched ≡ a .touched
+  pub answers-are : answers ≡ a .answers ++ drop count room
+  pub samples-are : samples ≡ a .plane
+  pub count-most : count ≤ RECORD_LIMIT
+  pub touched-most : 4 * touched ≤ FILE_LIMIT
+
 -- the touched count of a record: n0² where its answer is 0
 unfoldable pub touchedBy : ℕ → ℕ → ℕ
 touchedBy answer size = cond (eqb answer 0) (tokenCount size) 0
 
 module _ (R : Reconstruction) (s : List ℕ) where
+  -- reconstruction with the numbers of the record at a place
+  unfoldable pub rebuildAt : ℕ → List ℕ → Rebuilt
+  rebuildAt at plane =
+      R plane (widthOf s) (heightOf s) (headAt s at .x) (headAt s at .y) (sizeAt s at) (tokensAt s at) (pos (headAt s at .dc)) (pos (headAt s at .ac)) (headAt s at .kind) (eqb (losslessAt s at) 1) (depthOf s)
+
   -- a whole record: a lossless byte above 1 is 14; then reconstruction's own answer
   unfoldable pub rebuiltAt : ℕ → List ℕ → Rebuilt
-  rebuiltAt at plane =
-      cond (ltb 1 (losslessAt s at)) (record { answer = 14; plane = plane })
-      (R plane (widthOf s) (heightOf s) (headAt s at .x) (headAt s at .y) (sizeAt s at) (tokensAt s at) (pos (headAt s at .dc)) (pos (headAt s at .ac)) (headAt s at .kind) (eqb (losslessAt s at) 1) (depthOf s))
+  rebuiltAt at plane = cond (ltb 1 (losslessAt s at)) (record { answer = 14; plane = plane }) (rebuildAt at plane)
 
   -- the records from a place on, k of them at most: with no byte left the reading ends; after a record that is cut short or of no size it ends too
   unfoldable pub records : ℕ → ℕ → List ℕ → After
