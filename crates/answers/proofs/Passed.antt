@@ -2,15 +2,15 @@
 use mathlib.Core.Path.{_≡_, refl, sym, ap, _∙_}
 use mathlib.Core.Bool.{Bool, true, false, not, _&&_, _||_}
 use mathlib.Core.List.{List}
-use mathlib.Core.Logic.{_⊎_, inl, inr}
 use Prim.Native.Nat.{ℕ, zero, suc, _+_, _-_, _^_, _≤_, _<_}
+use native.Mathlib.Numerals.{add-one}
 use native.Mathlib.Omega.{arith}
-use borrow.Author.Tests.{ltb-false, eqb-true}
+use borrow.Author.Tests.{ltb-false, le-ltb, eqb-true}
 use lib.Dec.{ltb, eqb}
 use lib.IntN.{ℤ, pos, negsuc, natAbs}
 use lib.ListN.{getD}
 use Rattle.whole.specs.Within.{Within}
-use Rattle.whole.proofs.Tests.{any-at}
+use Rattle.whole.proofs.Tests.{any-at, any-none, any-more}
 use Rattle.whole.proofs.Within.{within-abs}
 use Rattle.answers.specs.Limits.{QUANT_LIMIT, codeable}
 use Rattle.answers.specs.Bad.{badDepth, badQuantizer, anyBeyond}
@@ -63,3 +63,10 @@ none-beyond m n l h k p = ltb-false m (natAbs (getD l k (pos 0))) (any-at _ n k 
 
 pub none-within : (m n : ℕ) (l : List ℤ) → anyBeyond m n l ≡ false → (k : ℕ) → k < n → Within m (getD l k (pos 0))
 none-within m n l h k p = within-abs (none-beyond m n l h k p)
+
+-- and the other way: a list within m passes
+pub all-within : (m n : ℕ) (l : List ℤ) → ((k : ℕ) → k < n → natAbs (getD l k (pos 0)) ≤ m) → anyBeyond m n l ≡ false
+unfolding anyBeyond
+all-within m zero l h = any-none (λ k. ltb m (natAbs (getD l k (pos 0))))
+all-within m (suc n) l h =
+    rw add-one at (any-more (λ k. ltb m (natAbs (getD l k (pos 0)))) n (all-within m n l (λ k q. h k (omega arith))) (le-ltb m (natAbs (getD l n (pos 0))) (h n (omega arith))))

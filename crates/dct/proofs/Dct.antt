@@ -1,8 +1,9 @@
 -- Laws of the inverse DCT: the recursion as the code counts, zeros stay zeros, the DC-only case, entries from 2^n on stay.
 use mathlib.Core.Path.{_≡_, refl, sym, subst}
-use mathlib.Core.Bool.{Bool, true}
+use mathlib.Core.Bool.{true}
 use mathlib.Core.List.{List, [], _∷_}
-use Prim.Native.Nat.{ℕ, zero, suc, _+_, _-_, _^_, _≤_, _<_}
+use Prim.Native.Nat.{ℕ, zero, suc, _-_, _*_, _/_, _^_, _≤_, _<_}
+use native.Mathlib.Nat.{mul-le-mul}
 use native.Mathlib.Numerals.{sub-one}
 use native.Mathlib.Omega.{arith}
 use lib.Dec.{T}
@@ -11,10 +12,11 @@ use lib.Pow.{pow-pos}
 use lib.ListN.{getD, replicate}
 use Rattle.whole.specs.Round.{Round2}
 use Rattle.whole.specs.Lists.{fill, move}
-use Rattle.whole.specs.Steps.{run, each, when, _⨾_}
+use Rattle.whole.specs.Steps.{run, each, when, _⨾_, Ok, Left}
+use Rattle.whole.proofs.Steps.{left-all, left-next}
 use Rattle.primitives.specs.Brev.{Brev}
-use Rattle.steps.specs.Step.{Step, Bf, step}
-use Rattle.steps.specs.Shapes.{Kind, Z, X, R, turned, shape, Zeros, Alone}
+use Rattle.steps.specs.Step.{Step, Bf, Move, step}
+use Rattle.steps.specs.Shapes.{Z, X, R, turned, shape, Zeros, Alone}
 use Rattle.steps.specs.Places.{writes, every, Stays}
 use Rattle.steps.proofs.Places.{steps-stay}
 use Rattle.steps.proofs.Shapes.{zeros-stay, alone-turned}
@@ -30,6 +32,21 @@ dct-more (suc (suc k)) h = rw sub-one
 pub dct-first : (n : ℕ) → n ≡ 2 → dctSteps (n - 1) ≡ Bf 0 1 (pos 16) true ∷ []
 unfolding dctSteps
 dct-first n e = rw e
+
+-- step 4 is for n = 5 alone
+pub steps4-five : (n : ℕ) → n ≡ 5 → steps4 n (2 ^ n) ≡ each 2 (λ i. each 2 (turn4a 5 32 i)) ⨾ each 2 (λ i. each 4 (turn4b 32 i))
+unfolding steps4 when
+steps4-five n e = rw e
+
+-- n2 j, a product of two that vary
+pub quarter : (n0 j : ℕ) → n0 ≤ 32 → j < 2 → n0 / 4 * j ≤ 8
+quarter n0 j h l = let a : n0 / 4 ≤ 8 = omega arith in let b : j ≤ 1 = omega arith in mul-le-mul a b
+
+-- what the permutation leaves to the process
+pub dct-process : {Fine : Step → List ℤ → Type 0} (n : ℕ) {t u : List ℤ} → Ok step Fine (dctRow n) t → u ≡ step (Move (2 ^ n) (Brev n)) t
+    → Left step Fine (dctSteps n) u (dct n t)
+unfolding dctRow dct
+dct-process n ok e = left-next (left-all ok) e
 
 -- a number from 2 to 5 is one of the four
 pub two-to-five : (P : ℕ → Type 0) → P 2 → P 3 → P 4 → P 5 → (n : ℕ) → 2 ≤ n → n ≤ 5 → P n

@@ -1,7 +1,7 @@
 -- Rows of the Rust's inverse DCT: the definition gives the same numbers.
 use mathlib.Core.Path.{_≡_, refl}
-use mathlib.Core.List.{List, [], _∷_}
-use lib.IntN.{ℤ, pos, negsuc}
+use mathlib.Core.List.{[], _∷_}
+use lib.IntN.{pos, negsuc}
 use lib.ListN.{replicate}
 use Rattle.whole.specs.Round.{Round2}
 use Rattle.whole.specs.Lists.{fill, move}

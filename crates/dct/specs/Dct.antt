@@ -1,5 +1,5 @@
 -- The inverse DCT of 2^n numbers. Specification §8.7.1.2 (the permutation) and §8.7.1.3 (the process, with its steps 2 to 7).
-use mathlib.Core.Bool.{Bool, true, false, not}
+use mathlib.Core.Bool.{true, false, not}
 use mathlib.Core.List.{List, [], _∷_}
 use Prim.Native.Nat.{ℕ, zero, suc, _+_, _-_, _*_, _/_, _%_, _^_}
 use lib.Dec.{leb, eqb}
@@ -8,62 +8,53 @@ use Rattle.whole.specs.Steps.{run, each, when, _⨾_}
 use Rattle.primitives.specs.Brev.{Brev}
 use Rattle.steps.specs.Step.{Step, Bf, Hd, Move, step}
 
--- one turn of each loop of steps 2 to 7, and the steps; n0 is 2^n
-module _ (n n0 : ℕ) where
-  abbrev pub n1 : ℕ
-  n1 = n0 / 2
+-- one turn of each loop of steps 2 to 7: n0 is 2^n, and n1, n2, n3 of the document are its half, quarter and eighth
+abbrev pub turn2 : ℕ → ℕ → List Step
+turn2 n0 i = Bf (n0 / 2 + i) (n0 - 1 - i) (pos 32 -ℤ pos (Brev 5 (n0 / 2 + i))) false ∷ []
 
-  abbrev pub n2 : ℕ
-  n2 = n0 / 4
+abbrev pub turn3 : ℕ → ℕ → ℕ → List Step
+turn3 n0 i j = Hd (n0 / 2 + 4 * i + 2 * j) (n0 / 2 + 1 + 4 * i + 2 * j) (not (eqb j 0)) ∷ []
 
-  abbrev pub n3 : ℕ
-  n3 = n0 / 8
+abbrev pub turn4a : ℕ → ℕ → ℕ → ℕ → List Step
+turn4a n n0 i j = Bf (n0 - n + 3 - n0 / 4 * j - 4 * i) (n0 / 2 + n - 4 + n0 / 4 * j + 4 * i) (pos 28 -ℤ pos (16 * i) +ℤ pos (56 * j)) true ∷ []
 
-  abbrev pub turn2 : ℕ → List Step
-  turn2 i = Bf (n1 + i) (n0 - 1 - i) (pos 32 -ℤ pos (Brev 5 (n1 + i))) false ∷ []
+abbrev pub turn4b : ℕ → ℕ → ℕ → List Step
+turn4b n0 i j = Hd (n0 / 2 + n0 / 8 * j + i) (n0 / 2 + n0 / 4 - 5 + n0 / 8 * j - i) (not (eqb (j % 2) 0)) ∷ []
 
-  abbrev pub turn3 : ℕ → ℕ → List Step
-  turn3 i j = Hd (n1 + 4 * i + 2 * j) (n1 + 1 + 4 * i + 2 * j) (not (eqb j 0)) ∷ []
+abbrev pub turn5a : ℕ → ℕ → ℕ → ℕ → List Step
+turn5a n n0 i j = Bf (n0 - n + 2 - i - n0 / 4 * j) (n0 / 2 + n - 3 + i + n0 / 4 * j) (pos (24 + 48 * j)) true ∷ []
 
-  abbrev pub turn4a : ℕ → ℕ → List Step
-  turn4a i j = Bf (n0 - n + 3 - n2 * j - 4 * i) (n1 + n - 4 + n2 * j + 4 * i) (pos 28 -ℤ pos (16 * i) +ℤ pos (56 * j)) true ∷ []
+abbrev pub turn5b : ℕ → ℕ → ℕ → List Step
+turn5b n0 i j = Hd (n0 / 2 + n0 / 4 * j + i) (n0 / 2 + n0 / 4 - 1 + n0 / 4 * j - i) (not (eqb (j % 2) 0)) ∷ []
 
-  abbrev pub turn4b : ℕ → ℕ → List Step
-  turn4b i j = Hd (n1 + n3 * j + i) (n1 + n2 - 5 + n3 * j - i) (not (eqb (j % 2) 0)) ∷ []
+abbrev pub turn6 : ℕ → ℕ → List Step
+turn6 n0 i = Bf (n0 - n0 / 8 - 1 - i) (n0 / 2 + n0 / 8 + i) (pos 16) true ∷ []
 
-  abbrev pub turn5a : ℕ → ℕ → List Step
-  turn5a i j = Bf (n0 - n + 2 - i - n2 * j) (n1 + n - 3 + i + n2 * j) (pos (24 + 48 * j)) true ∷ []
+abbrev pub turn7 : ℕ → ℕ → List Step
+turn7 n0 i = Hd i (n0 - 1 - i) false ∷ []
 
-  abbrev pub turn5b : ℕ → ℕ → List Step
-  turn5b i j = Hd (n1 + n2 * j + i) (n1 + n2 - 1 + n2 * j - i) (not (eqb (j % 2) 0)) ∷ []
+-- steps 2 to 7
+unfoldable pub steps2 : ℕ → List Step
+steps2 n0 = each (n0 / 4) (turn2 n0)
 
-  abbrev pub turn6 : ℕ → List Step
-  turn6 i = Bf (n0 - n3 - 1 - i) (n1 + n3 + i) (pos 16) true ∷ []
+unfoldable pub steps3 : ℕ → ℕ → List Step
+steps3 n n0 = when (leb 3 n) (each (n0 / 8) (λ i. each 2 (turn3 n0 i)))
 
-  abbrev pub turn7 : ℕ → List Step
-  turn7 i = Hd i (n0 - 1 - i) false ∷ []
+unfoldable pub steps4 : ℕ → ℕ → List Step
+steps4 n n0 = when (eqb n 5) (each 2 (λ i. each 2 (turn4a n n0 i)) ⨾ each 2 (λ i. each 4 (turn4b n0 i)))
 
-  unfoldable pub steps2 : List Step
-  steps2 = each n2 turn2
+-- i of 5a is 0 for n = 4, and 0 and 1 for n = 5; i of 5b goes to 2n - 7
+unfoldable pub steps5 : ℕ → ℕ → List Step
+steps5 n n0 = when (leb 4 n) (each (n / 5 + 1) (λ i. each 2 (turn5a n n0 i)) ⨾ each (2 * n - 6) (λ i. each 2 (turn5b n0 i)))
 
-  unfoldable pub steps3 : List Step
-  steps3 = when (leb 3 n) (each n3 (λ i. each 2 (turn3 i)))
+unfoldable pub steps6 : ℕ → ℕ → List Step
+steps6 n n0 = when (leb 3 n) (each (n0 / 8) (turn6 n0))
 
-  unfoldable pub steps4 : List Step
-  steps4 = when (eqb n 5) (each 2 (λ i. each 2 (turn4a i)) ⨾ each 2 (λ i. each 4 (turn4b i)))
+unfoldable pub steps7 : ℕ → List Step
+steps7 n0 = each (n0 / 2) (turn7 n0)
 
-  -- i of 5a is 0 alone for n = 4, and 0 and 1 for n = 5
-  unfoldable pub steps5 : List Step
-  steps5 = when (leb 4 n) (each (n / 5 + 1) (λ i. each 2 (turn5a i)) ⨾ each (2 * n - 6) (λ i. each 2 (turn5b i)))
-
-  unfoldable pub steps6 : List Step
-  steps6 = when (leb 3 n) (each n3 turn6)
-
-  unfoldable pub steps7 : List Step
-  steps7 = each n1 turn7
-
-  unfoldable pub tailAt : List Step
-  tailAt = steps2 ⨾ steps3 ⨾ steps4 ⨾ steps5 ⨾ steps6 ⨾ steps7
+unfoldable pub tailAt : ℕ → ℕ → List Step
+tailAt n n0 = steps2 n0 ⨾ steps3 n n0 ⨾ steps4 n n0 ⨾ steps5 n n0 ⨾ steps6 n n0 ⨾ steps7 n0
 
 unfoldable pub tail : ℕ → List Step
 tail n = tailAt n (2 ^ n)

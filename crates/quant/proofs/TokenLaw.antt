@@ -3,7 +3,7 @@ use mathlib.Core.Path.{_≡_, refl, sym, ap, _∙_}
 use mathlib.Core.Bool.{Bool, true, false}
 use Prim.Native.Nat.{ℕ, zero, suc, min, _+_, _-_, _*_, _/_, _%_, _≤_, _<_}
 use native.Mathlib.Omega.{arith}
-use borrow.Author.Tests.{eqb-true, eqb-false}
+use borrow.Author.Tests.{eqb-true, eqb-false, ne-eqb}
 use lib.Dec.{eqb}
 use lib.IntN.{ℤ, pos, natAbs}
 use Rattle.answers.specs.Bad.{badQuantizer}
@@ -70,3 +70,25 @@ token-law-cap size cap q t h l =
 pub token-law : (size depth : ℕ) (q token : ℤ) → badQuantizer q ≡ false → natAbs token ≤ codeable depth
     → quantize size (codeable depth) q (dequant size q token) ≡ givenBack size q token
 token-law size depth = token-law-cap size (codeable depth)
+
+-- the exception aside, the token itself
+pub given-back-small : (size : ℕ) (q token : ℤ) → (size ≡ 3 → ⊥) → givenBack size q token ≡ token
+unfolding givenBack
+given-back-small size q t h = rw (ne-eqb size 3 h)
+
+pub given-back-coarse : (size : ℕ) (q token : ℤ) → 2 ≤ natAbs q → givenBack size q token ≡ token
+unfolding givenBack
+given-back-coarse size q t h = go (eqb size 3) refl
+  where
+    go : (b : Bool) → eqb size 3 ≡ b → givenBack size q t ≡ t
+    go true e = rw (e, ne-eqb (natAbs q) 1 (λ (f : natAbs q ≡ 1). absurd (omega arith)))
+    go false e = rw e
+
+pub given-back-even : (size : ℕ) (q token : ℤ) → natAbs token % 2 ≡ 0 → givenBack size q token ≡ token
+unfolding givenBack
+given-back-even size q t h = go (eqb size 3) (eqb (natAbs q) 1) refl refl
+  where
+    go : (b c : Bool) → eqb size 3 ≡ b → eqb (natAbs q) 1 ≡ c → givenBack size q t ≡ t
+    go true true e f = rw (e, f, ne-eqb (natAbs t % 2) 1 (λ (g : natAbs t % 2 ≡ 1). absurd (omega arith)))
+    go true false e f = rw (e, f)
+    go false c e f = rw e

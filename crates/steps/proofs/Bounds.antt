@@ -1,23 +1,21 @@
 -- The range theorem: where the computed test holds, every step is fine, and the values stay within the computed bounds.
-use mathlib.Core.Path.{_≡_, refl, sym, ap, subst}
-use mathlib.Core.Bool.{Bool, true, false}
-use mathlib.Core.List.{List, [], _∷_}
+use mathlib.Core.Bool.{true, false}
+use mathlib.Core.List.{List}
 use Prim.Native.Nat.{ℕ, zero, suc, _+_, _-_, _*_, _/_, _^_, _≤_, _<_}
 use native.Mathlib.Nat as NatL
 use native.Mathlib.Omega.{arith}
-use lib.Dec.{T, leb, leb→le, ltb, ltb→lt, lit<}
-use lib.IntN.{ℤ, pos, negℤ, natAbs, _+ℤ_, _-ℤ_, _*ℤ_}
-use lib.ListN.{length, getD, set, replicate, length-replicate, getD-replicate}
+use lib.Dec.{T, leb, leb→le, ltb, ltb→lt}
+use lib.IntN.{ℤ, pos, natAbs, _+ℤ_, _-ℤ_}
+use lib.ListN.{length, getD, replicate, length-replicate, getD-replicate}
 use lib.Pow.{pow-pos}
 use lib.Signed.{shrZ}
-use Rattle.whole.specs.Parts.{P, N}
 use Rattle.whole.specs.Within.{Within, EachWithin}
 use Rattle.whole.specs.Ring.{E, at, _⊕_, _⊖_, ev, pp, pn}
 use Rattle.whole.specs.Tests.{both, allBelow}
 use Rattle.whole.specs.Round.{Round2}
 use Rattle.whole.specs.Lists.{fill, move}
 use Rattle.whole.specs.Steps.{run, Ok, checks}
-use Rattle.whole.proofs.Parts.{apart, sum-parts, neg-P, neg-N, shr-low, shr-high}
+use Rattle.whole.proofs.Parts.{shr-low, shr-high}
 use Rattle.whole.proofs.Ring.{sound}
 use Rattle.whole.proofs.Within.{within-self, within-le, within-parts, within-neg, within-add, within-sub, within-mul, within-shr, each-set, each-all, table-within}
 use Rattle.whole.proofs.Tests.{b₁, b₂, below}

@@ -1,18 +1,18 @@
 -- Steps that write below n leave every place from n on, and every step leaves the length.
-use mathlib.Core.Path.{_≡_, refl, sym, ap, _∙_}
+use mathlib.Core.Path.{_≡_, refl, _∙_}
 use mathlib.Core.Bool.{Bool, true, false}
 use mathlib.Core.List.{List, [], _∷_}
-use Prim.Native.Nat.{ℕ, zero, suc, _+_, _^_, _≤_, _<_}
+use Prim.Native.Nat.{ℕ, zero, suc, _≤_, _<_}
 use native.Mathlib.Nat as NatL
 use native.Mathlib.Omega.{arith}
-use lib.Dec.{T, leb, leb→le, ltb, ltb→lt}
+use lib.Dec.{T, leb→le, ltb, ltb→lt}
 use lib.IntN.{ℤ, pos}
-use lib.ListN.{length, getD, set, length-set}
+use lib.ListN.{getD, set, length-set}
 use Rattle.whole.specs.Tests.{both}
 use Rattle.whole.specs.Lists.{fill, move}
 use Rattle.whole.specs.Steps.{run}
 use Rattle.whole.proofs.Tests.{b₁, b₂}
-use Rattle.primitives.specs.Rotations.{put, applyB, applyH, applySB, applySH}
+use Rattle.primitives.specs.Rotations.{put, applyB, applyH, applySH}
 use Rattle.steps.specs.Step.{Step, Bf, Hd, Neg, Move, A4, Wh, step, adst4, wht4}
 use Rattle.steps.specs.Step2.{Arrays, Step2, on, SB, SH, step2}
 use Rattle.steps.specs.Places.{writes, writes2, every, Stays}

@@ -1,0 +1,51 @@
+ghost use mathlib.Core.Path.{_≡_};
+ghost use Prim.Native.Nat.{ℕ, _+_, _*_, _^_, _≤_, _<_};
+ghost use lib.IntN.{pos};
+ghost use lib.ListN.{length, getD};
+ghost use Rattle.whole.specs.Lists.{fill};
+ghost use Rattle.whole.specs.Round.{Round2};
+ghost use Rattle.blocks.specs.Block.{put, live, FirstWithin};
+
+// The n numbers of s at start, start + step, .. into the first places of t.
+pub fn load(t: &mut [i64; 32], s: &[i64], start: usize, step: usize, n: usize)
+    requires { ⌜ (n ≤ 32) × ((k : ℕ) → k < n → start + k * step < length (now s)) ⌝ }
+    ensures { λ _. ⌜ now (t .exit) ≡ fill n (λ k. getD (now (s .entry)) (start + k * step) (pos 0)) (now (t .entry)) ⌝ }
+{
+    for k in 0..n {
+        t[k] = s[start + k * step];
+    }
+}
+
+// The first n numbers of t to these places of s.
+pub fn store(s: &mut [i64], t: &[i64; 32], start: usize, step: usize, n: usize)
+    requires { ⌜ (n ≤ 32) × ((k : ℕ) → k < n → start + k * step < length (now s)) ⌝ }
+    ensures { λ _. ⌜ now (s .exit) ≡ put (λ z. z) start step n (now (t .entry)) (now (s .entry)) ⌝ }
+{
+    for k in 0..n {
+        s[start + k * step] = t[k];
+    }
+}
+
+// The same, each number rounded by `shift` bits.
+pub fn store_rounded(s: &mut [i64], t: &[i64; 32], start: usize, step: usize, n: usize, shift: u32)
+    requires { ⌜ (n ≤ 32) × ((k : ℕ) → k < n → start + k * step < length (now s)) × (1 ≤ «shift») × («shift» ≤ 30) × FirstWithin (2 ^ 62) n (now t) ⌝ }
+    ensures { λ _. ⌜ now (s .exit) ≡ put (λ z. Round2 z «shift») start step n (now (t .entry)) (now (s .entry)) ⌝ }
+{
+    for k in 0..n {
+        s[start + k * step] = primitives::round2(t[k], shift);
+    }
+}
+
+// Whether some of the n numbers from start on is not 0; a flag and no early return, for speed.
+pub fn any_live(s: &[i64], start: usize, n: usize) -> bool
+    requires { ⌜ start + n ≤ length (now s) ⌝ }
+    ensures { λ r. ⌜ r ≡ live start n (now (s .entry)) ⌝ }
+{
+    let mut any = false;
+    for k in 0..n {
+        if s[start + k] != 0 {
+            any = true;
+        }
+    }
+    any
+}

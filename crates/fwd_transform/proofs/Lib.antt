@@ -1,0 +1,2 @@
+pub mod Quantizer
+pub mod ListLaw

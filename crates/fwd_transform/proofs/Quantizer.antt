@@ -1,0 +1,69 @@
+-- Laws of the quantizing calls: what each answer leaves, what answer 0 says of the input, and that the promise fixes the result.
+use mathlib.Core.Path.{_≡_, refl, sym, ap, _∙_}
+use mathlib.Core.Bool.{Bool, true, false, _||_, cond}
+use mathlib.Core.List.{List}
+use Prim.Native.Nat.{ℕ, zero, suc, _≤_, _<_}
+use native.Mathlib.Omega.{arith}
+use borrow.Author.Tests.{ltb-false, eq-eqb, ne-eqb}
+use lib.Dec.{ltb, eqb}
+use lib.IntN.{ℤ, pos, natAbs}
+use lib.ListN.{length, getD}
+use Rattle.whole.specs.Lists.{tabulate, fill}
+use Rattle.whole.proofs.Lists.{fill-rest, fill-all, fill-done}
+use Rattle.answers.specs.Bad.{badDepth, badSize, badQuantizer, anyBeyond}
+use Rattle.answers.specs.Limits.{COEF_LIMIT, LIST_LIMIT}
+use Rattle.answers.specs.declared.Answer.{Answer}
+use Rattle.answers.proofs.Numbers.{number-injective, pass, rest}
+use Rattle.answers.proofs.Passed.{none-beyond}
+use Rattle.fwd_transform.specs.Quantize.{Input, answerOf, tokenAt, tokensOf, Quantized}
+
+neither : (a b : Bool) → a || b ≡ false → (a ≡ false) × (b ≡ false)
+neither true b h = (h, cc)
+neither false b h = (refl, h)
+
+module _ (i : Input) where
+  -- a refusal leaves the list
+  pub refused : (answerOf i ≡ 0 → ⊥) → i .coefs ≡ cond (eqb (answerOf i) 0) (tokensOf i) (i .coefs)
+  refused h = rw (ne-eqb (answerOf i) 0 h)
+
+  pub done : answerOf i ≡ 0 → tokensOf i ≡ cond (eqb (answerOf i) 0) (tokensOf i) (i .coefs)
+  done h = rw (eq-eqb (answerOf i) 0 h)
+
+  -- what answer 0 says of the input
+  pub record Fine : Type 0 where
+    pub depth-ok : badDepth (i .depth) ≡ false
+    pub size-ok : i .size ≤ 3
+    pub dc-ok : badQuantizer (i .dc .0) ≡ false
+    pub ac-ok : badQuantizer (i .ac .0) ≡ false
+    pub length-ok : length (i .coefs) ≤ LIST_LIMIT
+    pub coefs-ok : (k : ℕ) → k < length (i .coefs) → natAbs (getD (i .coefs) k (pos 0)) ≤ COEF_LIMIT
+
+  pub fine : answerOf i ≡ 0 → Fine
+  unfolding answerOf
+  fine h =
+      let n = length (i .coefs) in
+      let h2 = rest (badDepth (i .depth)) 0 _ h in
+      let h5 = rest (badSize (i .size)) 1 _ h2 in
+      let h6 = rest (badQuantizer (i .dc .0) || badQuantizer (i .ac .0)) 4 _ h5 in
+      let h9 = rest (ltb LIST_LIMIT n) 5 _ h6 in
+      let q = neither (badQuantizer (i .dc .0)) (badQuantizer (i .ac .0)) (pass (badQuantizer (i .dc .0) || badQuantizer (i .ac .0)) 4 _ h5) in
+      record {
+        depth-ok = pass (badDepth (i .depth)) 0 _ h;
+        size-ok = ltb-false 3 (i .size) (pass (badSize (i .size)) 1 _ h2);
+        dc-ok = q .0;
+        ac-ok = q .1;
+        length-ok = ltb-false LIST_LIMIT n (pass (ltb LIST_LIMIT n) 5 _ h6);
+        coefs-ok = none-beyond COEF_LIMIT n (i .coefs) (pass (anyBeyond COEF_LIMIT n (i .coefs)) 8 _ h9);
+      }
+
+  -- the loop: turn k meets the coefficient as it came
+  pub turn : (k : ℕ) (l : List ℤ) → l ≡ fill k (tokenAt i) (i .coefs) → getD l k (pos 0) ≡ getD (i .coefs) k (pos 0)
+  turn k l e = rw e (fill-rest (pos 0) k (tokenAt i) (i .coefs) k (omega arith))
+
+  pub filled : (k : ℕ) (l : List ℤ) → k ≤ length (i .coefs) → length (i .coefs) ≤ k → l ≡ fill k (tokenAt i) (i .coefs) → l ≡ tokensOf i
+  unfolding tokensOf
+  filled k l p q e = fill-done (tokenAt i) (i .coefs) k (length (i .coefs)) p q e ∙ fill-all (pos 0) (tokenAt i) (i .coefs)
+
+-- two results that meet the promise coincide
+pub coincide : (i : Input) (a b : Answer) (l m : List ℤ) → Quantized i a l → Quantized i b m → (a ≡ b) × (l ≡ m)
+coincide i a b l m p q = (number-injective a b (p .answered ∙ sym (q .answered)), p .written ∙ sym (q .written))

@@ -1,0 +1,69 @@
+use mathlib.Core.Path.{_≡_, refl, ap, _∙_}
+use Prim.Native.Nat.{ℕ, _+_, _*_, _-_, _≤_}
+use native.Mathlib.Omega.{arith}
+use borrow.Author.Needs.{needs}
+use lib.ListN.{length, set}
+use Rattle.whole.specs.Lists.{fill}
+use Rattle.whole.proofs.Lists.{fill-none, fill-more, fill-done}
+use Rattle.vbk_read.specs.Bytes.{le2}
+use Rattle.vbk_read.specs.Header.{sampleAt}
+use Rattle.vbk_read.proofs.Cursor.read_samples.Statement.{statement}
+use Rattle.vbk_read.proofs.Cursor.read_samples.Tie as tie
+
+abbrev Inv-loop : tie.InvT-loop
+Inv-loop s count plane₀ c₀ k₀ plane c k =
+    (k ≤ count) × (c .at ≡ c₀ .at + 2 * k) × (length plane ≡ length plane₀) × (plane ≡ fill k (sampleAt s (c₀ .at)) plane₀)
+
+abbrev μ-loop : tie.MeasureT-loop
+μ-loop s count plane₀ c₀ k₀ plane c k = count - k
+
+loop-holds : tie.Need-loop-holds Inv-loop μ-loop
+loop-holds c = (search needs, search needs, refl, fill-none _ _)
+
+read-u16-requires : tie.Need-read-u16-requires Inv-loop μ-loop
+read-u16-requires c κs = search needs
+
+mul-plane : tie.Need-mul-plane Inv-loop μ-loop
+mul-plane c = search needs
+
+slice-write-plane : tie.Need-slice-write-plane Inv-loop μ-loop
+slice-write-plane c = search needs
+
+add-k : tie.Need-add-k Inv-loop μ-loop
+add-k c = search needs
+
+loop-less : tie.Need-loop-less Inv-loop μ-loop
+loop-less c = search needs
+
+loop-again : tie.Need-loop-again Inv-loop μ-loop
+unfolding sampleAt
+loop-again c =
+    let a = c .before .before .before .before .before .before .args in
+    let l = c .before .before .before .loop in
+    let e : c .before .read-u16 .result .value ≡ le2 (a .s .now) (a .self .at + 2 * l .k) = c .before .read-u16 .ensures .value-is ∙ ap (le2 (a .s .now)) (l .inv .1) in
+    (search needs, omega (arith, l .inv .1, c .before .read-u16 .ensures .next-is), search needs, fill-more _ _ (l .k) (l .inv .3) (ap (set (l .plane) (l .k)) e))
+
+same-length : tie.Need-same-length Inv-loop μ-loop
+same-length c = search needs
+
+returns : tie.Need-returns Inv-loop μ-loop
+returns c =
+    let l = c .before .loop in
+    let e : l .k ≡ c .before .before .before .before .args .count = omega arith in
+    (l .inv .1 ∙ ap (λ (k : ℕ). c .before .before .before .before .args .self .at + 2 * k) e, fill-done _ _ (l .k) _ (l .inv .0) (omega arith) (l .inv .3))
+
+pub read-samples-spec : {M : Type 1} → statement M
+read-samples-spec =
+    tie.close
+    (tie.spec
+    Inv-loop
+    μ-loop
+    loop-holds
+    read-u16-requires
+    mul-plane
+    slice-write-plane
+    add-k
+    loop-less
+    loop-again
+    same-length
+    returns)
