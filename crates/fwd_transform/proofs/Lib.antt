@@ -1,2 +1,3 @@
 pub mod Quantizer
 pub mod ListLaw
+pub mod Wht

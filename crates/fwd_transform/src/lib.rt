@@ -1,24 +1,90 @@
 use answers::Answer;
 use answers::COEF_LIMIT;
 use answers::LIST_LIMIT;
+use answers::WHT_LIMIT;
 use answers::any_beyond;
 use answers::bad_depth;
 use answers::bad_size;
 use answers::code;
+use blocks::load;
+use blocks::store;
 use quant::AcQuant;
 use quant::DcQuant;
 use quant::max_codeable_coef;
+use wht::inverse_wht;
 ghost use mathlib.Core.Bool.{false};
 ghost use mathlib.Core.Path.{_≡_};
-ghost use Prim.Native.Nat.{ℕ, _≤_, _<_};
+ghost use Prim.Native.Nat.{ℕ, _+_, _*_, _^_, _≤_, _<_};
 ghost use lib.IntN.{pos, natAbs};
 ghost use lib.ListN.{length, getD};
 ghost use Rattle.answers.specs.Answers.{number};
 ghost use Rattle.answers.specs.Bad.{badQuantizer};
 ghost use Rattle.answers.specs.Limits.{codeable};
+ghost use Rattle.blocks.specs.Block.{line, rows, columns, on, FirstWithin};
+ghost use Rattle.steps.specs.Step.{FourWithin};
+ghost use Rattle.wht.specs.Wht.{wht};
 ghost use Rattle.quant.specs.Places.{quantizerAt};
 ghost use Rattle.quant.specs.Token.{quantize};
+ghost use Rattle.fwd_transform.specs.ForwardWht.{Forwarded, whtAnswer};
 ghost use Rattle.fwd_transform.specs.Quantize.{Quantized, answerOf, tokensOf};
+
+// The answer to the whole block, before anything is written.
+fn check_wht(block: &[i64]) -> Answer
+    ensures { λ r. ⌜ number r ≡ whtAnswer (now (block .entry)) ⌝ }
+{
+    let n = block.len();
+    if n != 16 {
+        return Answer::Length;
+    }
+    if any_beyond(block, n, WHT_LIMIT) {
+        return Answer::Coefficient;
+    }
+    Answer::Done
+}
+
+// The WHT of the four numbers at start, start + step, ..
+fn wht_line(block: &mut [i64], start: usize, step: usize)
+    requires { ⌜ ((k : ℕ) → k < 4 → start + k * step < length (now block)) × FourWithin (2 ^ 46) (line start step 4 (now block)) ⌝ }
+    ensures { λ _. ⌜ now (block .exit) ≡ on (wht 0) (λ z. z) start step 4 (now (block .entry)) ⌝ }
+{
+    let mut t = [0i64; 32];
+    load(&mut t, block, start, step, 4);
+    inverse_wht(&mut t, 0);
+    store(block, &t, start, step, 4);
+}
+
+// The inverse's column pass is its own inverse.
+fn wht_columns(block: &mut [i64])
+    requires { ⌜ (length (now block) ≡ 16) × FirstWithin (2 ^ 23) 16 (now block) ⌝ }
+    ensures { λ _. ⌜ now (block .exit) ≡ columns (wht 0) (λ z. z) 4 (now (block .entry)) ⌝ }
+{
+    for j in 0..4 {
+        wht_line(block, j, 4);
+    }
+}
+
+// The inverse's row pass shifts four times the tokens by 2 first, so these are the tokens.
+fn wht_rows(block: &mut [i64])
+    requires { ⌜ (length (now block) ≡ 16) × FirstWithin (2 ^ 24) 16 (now block) ⌝ }
+    ensures { λ _. ⌜ now (block .exit) ≡ rows (wht 0) 4 (now (block .entry)) ⌝ }
+{
+    for i in 0..4 {
+        wht_line(block, i * 4, 1);
+    }
+}
+
+// The tokens of a 4 by 4 block of differences, for lossless coding.
+pub fn forward_wht_2d(block: &mut [i64]) -> Answer
+    ensures { λ r. ⌜ Forwarded (now (block .entry)) r (now (block .exit)) ⌝ }
+{
+    let answer = check_wht(block);
+    if code(answer) != 0 {
+        return answer;
+    }
+    wht_columns(block);
+    wht_rows(block);
+    answer
+}
 
 // The answer to the whole input, before anything is written.
 fn check(coefs: &[i64], dc: DcQuant, ac: AcQuant, size: u32, depth: u32) -> Answer
