@@ -3,7 +3,6 @@
 // and everything read from there on is broken too.
 ghost use Prim.Native.Nat.{_+_, _≤_};
 ghost use lib.ListN.{length};
-ghost use Rattle.lines.specs.Stored.{Stored};
 
 // A place past the end of every line.
 pub const BROKEN: usize = 18446744073709551615;
@@ -328,7 +327,7 @@ fn fill(into: &mut [i64], from: usize, count: usize, value: i64)
 
 // Stores the list at `at`, as long as there is room.
 pub fn read_list(line: &[u8], at: usize, into: &mut [i64]) -> List
-    ensures { λ r. ⌜ Stored (r .count) (now (into .exit)) ⌝ }
+    ensures { λ r. ⌜ r .count ≤ length (now (into .exit)) ⌝ }
 {
     let head = read_unsigned(line, at);
     let count = head.value as usize;
@@ -375,7 +374,7 @@ pub fn read_whole_list(line: &[u8], at: usize, into: &mut [i64]) -> usize {
 }
 
 // `count` elements from `from` on have this value.
-pub fn all_are(found: &[i64], from: usize, count: usize, value: i64) -> bool
+fn all_are(found: &[i64], from: usize, count: usize, value: i64) -> bool
     requires { ⌜ from + count ≤ length (now found) ⌝ }
 {
     let mut i = 0;
@@ -387,6 +386,14 @@ pub fn all_are(found: &[i64], from: usize, count: usize, value: i64) -> bool
         i += 1;
     }
     true
+}
+
+// All elements from `from` on have this value.
+pub fn rest_is(found: &[i64], from: usize, value: i64) -> bool {
+    if found.len() < from {
+        return true;
+    }
+    all_are(found, from, found.len() - from, value)
 }
 
 // The place behind the number at `at`, if it is this one.

@@ -45,7 +45,7 @@ fn read_behind(buf: &mut [u8], from: usize) -> usize
 }
 
 // Line `number`: a comment, nothing, or a call.
-fn one_line(line: &[u8], number: u64, counts: &mut [u64; 128]) {
+fn one_line(line: &[u8], number: u64, numbers: &mut [i64], counts: &mut [u64; 128]) {
     if line.len() == 0 {
         return;
     }
@@ -58,11 +58,16 @@ fn one_line(line: &[u8], number: u64, counts: &mut [u64; 128]) {
         tally::add(counts, 0, Verdict::Skipped, number);
         return;
     }
-    tally::add(counts, kind, verdict(kind, line, head.next), number);
+    tally::add(
+        counts,
+        kind,
+        verdict(kind, line, head.next, numbers),
+        number,
+    );
 }
 
 // All lines; false where one is longer than the buffer.
-pub fn each_line(buf: &mut [u8], counts: &mut [u64; 128]) -> bool {
+pub fn each_line(buf: &mut [u8], numbers: &mut [i64], counts: &mut [u64; 128]) -> bool {
     let mut from = 0;
     let mut end = 0;
     let mut number: u64 = 0;
@@ -73,7 +78,7 @@ pub fn each_line(buf: &mut [u8], counts: &mut [u64; 128]) -> bool {
         let stop = line_end(buf, from, end);
         if stop < end {
             number += 1;
-            one_line(&buf[from..stop], number, counts);
+            one_line(&buf[from..stop], number, numbers, counts);
             from = stop + 1;
         } else {
             let kept = to_front(buf, from, end);
@@ -85,7 +90,7 @@ pub fn each_line(buf: &mut [u8], counts: &mut [u64; 128]) -> bool {
             if end == kept {
                 // the last line may have no end
                 number += 1;
-                one_line(&buf[0..end], number, counts);
+                one_line(&buf[0..end], number, numbers, counts);
                 return true;
             }
         }

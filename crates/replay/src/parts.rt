@@ -1,5 +1,6 @@
 // Kinds 1 to 8: the primitives. What they require of their numbers is tested here.
 use crate::verdict::Verdict;
+use crate::verdict::outside;
 use crate::verdict::reached;
 use crate::verdict::same_s;
 use crate::verdict::same_t;
@@ -25,13 +26,13 @@ pub fn round2(line: &[u8], at: usize) -> Verdict {
     let k = lines::read_unsigned32(line, x.next);
     let bits = k.value;
     if bits < 1 {
-        return Verdict::Skipped;
+        return outside(k.next);
     }
     if 30 < bits {
-        return Verdict::Skipped;
+        return outside(k.next);
     }
     if ROUNDED < magnitude(x.value) {
-        return Verdict::Skipped;
+        return outside(k.next);
     }
     reached(
         line,
@@ -44,7 +45,7 @@ pub fn brev(line: &[u8], at: usize) -> Verdict {
     let x = lines::read_unsigned(line, bits.next);
     let n = bits.value;
     if 5 < n {
-        return Verdict::Skipped;
+        return outside(x.next);
     }
     reached(
         line,
@@ -106,7 +107,7 @@ pub fn butterfly(line: &[u8], at: usize) -> Verdict {
         primitives::butterfly(&mut t, p, q, angle.value, flip.value);
         return same_t(line, next, flip.next, &t);
     }
-    Verdict::Skipped
+    outside(next)
 }
 
 pub fn hadamard(line: &[u8], at: usize) -> Verdict {
@@ -121,7 +122,7 @@ pub fn hadamard(line: &[u8], at: usize) -> Verdict {
         primitives::hadamard(&mut t, p, q, flip.value);
         return same_t(line, next, flip.next, &t);
     }
-    Verdict::Skipped
+    outside(next)
 }
 
 pub fn sb(line: &[u8], at: usize) -> Verdict {
@@ -139,7 +140,7 @@ pub fn sb(line: &[u8], at: usize) -> Verdict {
         primitives::sb(&t, &mut s, p, q, angle.value, flip.value);
         return same_s(line, next, behind, &s);
     }
-    Verdict::Skipped
+    outside(next)
 }
 
 pub fn sh(line: &[u8], at: usize) -> Verdict {
@@ -155,5 +156,5 @@ pub fn sh(line: &[u8], at: usize) -> Verdict {
         primitives::sh(&mut t, &s, p, q);
         return same_t(line, next, b.next, &t);
     }
-    Verdict::Skipped
+    outside(next)
 }

@@ -1,8 +1,7 @@
 use mathlib.Core.Path.{_≡_}
 use Prim.Native.Nat.{_-_, _≤_}
-use native.Mathlib.Omega.{arith}
 use borrow.Author.Needs.{needs}
-use lib.ListN.{length, length-take}
+use lib.ListN.{length}
 use Rattle.lines.proofs.read_list.Statement.{statement}
 use Rattle.lines.proofs.read_list.Tie as tie
 
@@ -11,9 +10,6 @@ Inv-loop line at into₀ count done₀ next₀ into done next = (length into ≡
 
 abbrev μ-loop : tie.MeasureT-loop
 μ-loop line at into₀ count done₀ next₀ into done next = count - done
-
-returns-4 : tie.Need-returns-4 Inv-loop μ-loop
-returns-4 c = (omega arith, simp length-take (omega arith))
 
 pub read-list-spec : {M : Type 1} → statement M
 read-list-spec =
@@ -35,4 +31,4 @@ read-list-spec =
     (λ c. search needs)
     (λ c. search needs)
     (λ c. search needs)
-    returns-4)
+    (λ c. search needs))

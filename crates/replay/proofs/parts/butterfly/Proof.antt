@@ -20,4 +20,5 @@ butterfly-spec =
     butterfly-requires
     (λ c κs. search needs)
     (λ c. search needs)
+    (λ c κs. search needs)
     (λ c. search needs))

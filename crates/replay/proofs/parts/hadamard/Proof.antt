@@ -19,4 +19,5 @@ hadamard-spec =
     hadamard-requires
     (λ c κs. search needs)
     (λ c. search needs)
+    (λ c κs. search needs)
     (λ c. search needs))

@@ -22,4 +22,5 @@ sb-spec =
     sb-requires
     (λ c κs. search needs)
     (λ c. search needs)
+    (λ c κs. search needs)
     (λ c. search needs))

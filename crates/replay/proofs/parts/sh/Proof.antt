@@ -20,4 +20,5 @@ sh-spec =
     sh-requires
     (λ c κs. search needs)
     (λ c. search needs)
+    (λ c κs. search needs)
     (λ c. search needs))
