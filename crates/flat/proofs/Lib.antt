@@ -1,0 +1,3 @@
+mod Three
+mod Table
+mod Straight

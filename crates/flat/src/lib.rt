@@ -1,0 +1,430 @@
+ghost use mathlib.Core.Path.{_≡_};
+ghost use Prim.Native.Nat.{ℕ, _+_, _^_, _≤_, _<_};
+ghost use lib.IntN.{pos};
+ghost use Rattle.whole.specs.Within.{Within};
+ghost use Rattle.primitives.specs.Rotations.{turnX, turnY};
+ghost use Rattle.primitives.specs.Brev.{Brev};
+ghost use Rattle.flat.specs.Reverses.{Reverses};
+ghost use Rattle.steps.specs.Step.{Bf, Hd, Move, step, Fine};
+ghost use Rattle.whole.specs.Steps.{run, Ok};
+ghost use Rattle.dct.specs.Dct.{tail, dctRow, dct};
+
+// Entry 32 n + i is brev(n, i) for n of 2 to 5 and i below 2^n; the rest are zeros.
+const BREV: [usize; 192] = [
+    0,
+    0,
+    0,
+    0,
+    0,
+    0,
+    0,
+    0,
+    0,
+    0,
+    0,
+    0,
+    0,
+    0,
+    0,
+    0,
+    0,
+    0,
+    0,
+    0,
+    0,
+    0,
+    0,
+    0,
+    0,
+    0,
+    0,
+    0,
+    0,
+    0,
+    0,
+    0,
+    0,
+    0,
+    0,
+    0,
+    0,
+    0,
+    0,
+    0,
+    0,
+    0,
+    0,
+    0,
+    0,
+    0,
+    0,
+    0,
+    0,
+    0,
+    0,
+    0,
+    0,
+    0,
+    0,
+    0,
+    0,
+    0,
+    0,
+    0,
+    0,
+    0,
+    0,
+    0,
+    0,
+    2,
+    1,
+    3,
+    0,
+    0,
+    0,
+    0,
+    0,
+    0,
+    0,
+    0,
+    0,
+    0,
+    0,
+    0,
+    0,
+    0,
+    0,
+    0,
+    0,
+    0,
+    0,
+    0,
+    0,
+    0,
+    0,
+    0,
+    0,
+    0,
+    0,
+    0,
+    0,
+    4,
+    2,
+    6,
+    1,
+    5,
+    3,
+    7,
+    0,
+    0,
+    0,
+    0,
+    0,
+    0,
+    0,
+    0,
+    0,
+    0,
+    0,
+    0,
+    0,
+    0,
+    0,
+    0,
+    0,
+    0,
+    0,
+    0,
+    0,
+    0,
+    0,
+    0,
+    0,
+    8,
+    4,
+    12,
+    2,
+    10,
+    6,
+    14,
+    1,
+    9,
+    5,
+    13,
+    3,
+    11,
+    7,
+    15,
+    0,
+    0,
+    0,
+    0,
+    0,
+    0,
+    0,
+    0,
+    0,
+    0,
+    0,
+    0,
+    0,
+    0,
+    0,
+    0,
+    0,
+    16,
+    8,
+    24,
+    4,
+    20,
+    12,
+    28,
+    2,
+    18,
+    10,
+    26,
+    6,
+    22,
+    14,
+    30,
+    1,
+    17,
+    9,
+    25,
+    5,
+    21,
+    13,
+    29,
+    3,
+    19,
+    11,
+    27,
+    7,
+    23,
+    15,
+    31,
+];
+
+// Both values of B before rounding, by three products: (p + q) c stands in both. Where sine and cosine agree up to the sign, two are left.
+fn turn(p: i64, q: i64, angle: i32) -> primitives::Rotated
+    requires { ⌜ Within (2 ^ 46) p × Within (2 ^ 46) q ⌝ }
+    ensures { λ r. ⌜ (r .x ≡ turnX p q angle) × (r .y ≡ turnY p q angle) ⌝ }
+{
+    let c = primitives::cos64(angle);
+    let s = primitives::sin64(angle);
+    let k = (p + q) * c;
+    primitives::Rotated {
+        x: k - q * (c + s),
+        y: k + p * (s - c),
+    }
+}
+
+// B(a, b, angle, flip) on t.
+fn fb(t: &mut [i64; 32], a: usize, b: usize, angle: i32, flip: bool)
+    requires { ⌜ Fine (2 ^ 46) (Bf a b angle flip) (now t) ⌝ }
+    ensures { λ _. ⌜ now (t .exit) ≡ step (Bf a b angle flip) (now (t .entry)) ⌝ }
+{
+    let r = turn(t[a], t[b], angle);
+    let x = primitives::round2(r.x, 14);
+    let y = primitives::round2(r.y, 14);
+    if flip {
+        t[a] = y;
+        t[b] = x;
+    } else {
+        t[a] = x;
+        t[b] = y;
+    }
+}
+
+// The permutation: t[i] = copy_t[brev(n, i)], with the table lent, since it folds away only where it is whole in the caller.
+fn permute(t: &mut [i64; 32], brev: &[usize; 192], n: usize, n0: usize)
+    requires { ⌜ (n ≤ 5) × (n0 ≤ 32) × (n0 ≡ 2 ^ n) × Reverses n (now brev) ⌝ }
+    ensures { λ _. ⌜ now (t .exit) ≡ step (Move (2 ^ n) (Brev n)) (now (t .entry)) ⌝ }
+{
+    let copy_t = *t;
+    for i in 0..n0 {
+        t[i] = copy_t[brev[32 * n + i]];
+    }
+}
+
+// H(a, b, flip) on t.
+fn fh(t: &mut [i64; 32], a: usize, b: usize, flip: bool)
+    requires { ⌜ Fine (2 ^ 46) (Hd a b flip) (now t) ⌝ }
+    ensures { λ _. ⌜ now (t .exit) ≡ step (Hd a b flip) (now (t .entry)) ⌝ }
+{
+    primitives::hadamard(t, a, b, flip);
+}
+
+// Steps 2 to 7 for n = 2.
+fn dct_level2(t: &mut [i64; 32])
+    requires { ⌜ Ok step (Fine (2 ^ 46)) (tail 2) (now t) ⌝ }
+    ensures { λ _. ⌜ now (t .exit) ≡ run step (tail 2) (now (t .entry)) ⌝ }
+{
+    fb(t, 2, 3, 24, false);
+    fh(t, 0, 3, false);
+    fh(t, 1, 2, false);
+}
+
+// Steps 2 to 7 for n = 3.
+fn dct_level3(t: &mut [i64; 32])
+    requires { ⌜ Ok step (Fine (2 ^ 46)) (tail 3) (now t) ⌝ }
+    ensures { λ _. ⌜ now (t .exit) ≡ run step (tail 3) (now (t .entry)) ⌝ }
+{
+    fb(t, 4, 7, 28, false);
+    fb(t, 5, 6, 12, false);
+    fh(t, 4, 5, false);
+    fh(t, 6, 7, true);
+    fb(t, 6, 5, 16, true);
+    fh(t, 0, 7, false);
+    fh(t, 1, 6, false);
+    fh(t, 2, 5, false);
+    fh(t, 3, 4, false);
+}
+
+// Steps 2 to 7 for n = 4.
+fn dct_level4(t: &mut [i64; 32])
+    requires { ⌜ Ok step (Fine (2 ^ 46)) (tail 4) (now t) ⌝ }
+    ensures { λ _. ⌜ now (t .exit) ≡ run step (tail 4) (now (t .entry)) ⌝ }
+{
+    fb(t, 8, 15, 30, false);
+    fb(t, 9, 14, 14, false);
+    fb(t, 10, 13, 22, false);
+    fb(t, 11, 12, 6, false);
+    fh(t, 8, 9, false);
+    fh(t, 10, 11, true);
+    fh(t, 12, 13, false);
+    fh(t, 14, 15, true);
+    fb(t, 14, 9, 24, true);
+    fb(t, 10, 13, 72, true);
+    fh(t, 8, 11, false);
+    fh(t, 12, 15, true);
+    fh(t, 9, 10, false);
+    fh(t, 13, 14, true);
+    fb(t, 13, 10, 16, true);
+    fb(t, 12, 11, 16, true);
+    fh(t, 0, 15, false);
+    fh(t, 1, 14, false);
+    fh(t, 2, 13, false);
+    fh(t, 3, 12, false);
+    fh(t, 4, 11, false);
+    fh(t, 5, 10, false);
+    fh(t, 6, 9, false);
+    fh(t, 7, 8, false);
+}
+
+// Steps 2 to 7 for n = 5.
+fn dct_level5(t: &mut [i64; 32])
+    requires { ⌜ Ok step (Fine (2 ^ 46)) (tail 5) (now t) ⌝ }
+    ensures { λ _. ⌜ now (t .exit) ≡ run step (tail 5) (now (t .entry)) ⌝ }
+{
+    fb(t, 16, 31, 31, false);
+    fb(t, 17, 30, 15, false);
+    fb(t, 18, 29, 23, false);
+    fb(t, 19, 28, 7, false);
+    fb(t, 20, 27, 27, false);
+    fb(t, 21, 26, 11, false);
+    fb(t, 22, 25, 19, false);
+    fb(t, 23, 24, 3, false);
+    fh(t, 16, 17, false);
+    fh(t, 18, 19, true);
+    fh(t, 20, 21, false);
+    fh(t, 22, 23, true);
+    fh(t, 24, 25, false);
+    fh(t, 26, 27, true);
+    fh(t, 28, 29, false);
+    fh(t, 30, 31, true);
+    fb(t, 30, 17, 28, true);
+    fb(t, 22, 25, 84, true);
+    fb(t, 26, 21, 12, true);
+    fb(t, 18, 29, 68, true);
+    fh(t, 16, 19, false);
+    fh(t, 20, 23, true);
+    fh(t, 24, 27, false);
+    fh(t, 28, 31, true);
+    fh(t, 17, 18, false);
+    fh(t, 21, 22, true);
+    fh(t, 25, 26, false);
+    fh(t, 29, 30, true);
+    fb(t, 29, 18, 24, true);
+    fb(t, 21, 26, 72, true);
+    fb(t, 28, 19, 24, true);
+    fb(t, 20, 27, 72, true);
+    fh(t, 16, 23, false);
+    fh(t, 24, 31, true);
+    fh(t, 17, 22, false);
+    fh(t, 25, 30, true);
+    fh(t, 18, 21, false);
+    fh(t, 26, 29, true);
+    fh(t, 19, 20, false);
+    fh(t, 27, 28, true);
+    fb(t, 27, 20, 16, true);
+    fb(t, 26, 21, 16, true);
+    fb(t, 25, 22, 16, true);
+    fb(t, 24, 23, 16, true);
+    fh(t, 0, 31, false);
+    fh(t, 1, 30, false);
+    fh(t, 2, 29, false);
+    fh(t, 3, 28, false);
+    fh(t, 4, 27, false);
+    fh(t, 5, 26, false);
+    fh(t, 6, 25, false);
+    fh(t, 7, 24, false);
+    fh(t, 8, 23, false);
+    fh(t, 9, 22, false);
+    fh(t, 10, 21, false);
+    fh(t, 11, 20, false);
+    fh(t, 12, 19, false);
+    fh(t, 13, 18, false);
+    fh(t, 14, 17, false);
+    fh(t, 15, 16, false);
+}
+
+// The inverse DCT of 4 numbers: the permutation, B(0, 1, 16, 1), then steps 2 to 7 for each size up to this.
+pub fn idct_fast2(t: &mut [i64; 32])
+    requires { ⌜ Ok step (Fine (2 ^ 46)) (dctRow 2) (now t) ⌝ }
+    ensures { λ _. ⌜ now (t .exit) ≡ dct 2 (now (t .entry)) ⌝ }
+{
+    let brev = BREV;
+    permute(t, &brev, 2, 4);
+    fb(t, 0, 1, 16, true);
+    dct_level2(t);
+}
+
+// The inverse DCT of 8 numbers: the permutation, B(0, 1, 16, 1), then steps 2 to 7 for each size up to this.
+pub fn idct_fast3(t: &mut [i64; 32])
+    requires { ⌜ Ok step (Fine (2 ^ 46)) (dctRow 3) (now t) ⌝ }
+    ensures { λ _. ⌜ now (t .exit) ≡ dct 3 (now (t .entry)) ⌝ }
+{
+    let brev = BREV;
+    permute(t, &brev, 3, 8);
+    fb(t, 0, 1, 16, true);
+    dct_level2(t);
+    dct_level3(t);
+}
+
+// The inverse DCT of 16 numbers: the permutation, B(0, 1, 16, 1), then steps 2 to 7 for each size up to this.
+pub fn idct_fast4(t: &mut [i64; 32])
+    requires { ⌜ Ok step (Fine (2 ^ 46)) (dctRow 4) (now t) ⌝ }
+    ensures { λ _. ⌜ now (t .exit) ≡ dct 4 (now (t .entry)) ⌝ }
+{
+    let brev = BREV;
+    permute(t, &brev, 4, 16);
+    fb(t, 0, 1, 16, true);
+    dct_level2(t);
+    dct_level3(t);
+    dct_level4(t);
+}
+
+// The inverse DCT of 32 numbers: the permutation, B(0, 1, 16, 1), then steps 2 to 7 for each size up to this.
+pub fn idct_fast5(t: &mut [i64; 32])
+    requires { ⌜ Ok step (Fine (2 ^ 46)) (dctRow 5) (now t) ⌝ }
+    ensures { λ _. ⌜ now (t .exit) ≡ dct 5 (now (t .entry)) ⌝ }
+{
+    let brev = BREV;
+    permute(t, &brev, 5, 32);
+    fb(t, 0, 1, 16, true);
+    dct_level2(t);
+    dct_level3(t);
+    dct_level4(t);
+    dct_level5(t);
+}
