@@ -15,6 +15,7 @@ pub fn verdict(kind: usize, line: &[u8], at: usize, numbers: &mut [i64]) -> Verd
         7 => parts::sb(line, at),
         8 => parts::sh(line, at),
         10 => rows::inverse_dct(line, at),
+        11 => rows::inverse_adst(line, at),
         12 => rows::inverse_wht(line, at),
         23 => coder::forward_wht_2d(line, at, numbers),
         24 => coder::quantize_block_tx(line, at, numbers),

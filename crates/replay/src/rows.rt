@@ -49,6 +49,24 @@ pub fn inverse_dct(line: &[u8], at: usize) -> Verdict {
     outside(next)
 }
 
+pub fn inverse_adst(line: &[u8], at: usize) -> Verdict {
+    let n = lines::read_unsigned32(line, at);
+    let mut t = [0i64; 32];
+    let next = lines::read_whole_list(line, n.next, &mut t);
+    let bits = n.value;
+    if bits < 2 {
+        return outside(next);
+    }
+    if 4 < bits {
+        return outside(next);
+    }
+    if all_near(&t, 32, ROW) {
+        adst::inverse_adst(&mut t, bits);
+        return same_t(line, next, n.next, &t);
+    }
+    outside(next)
+}
+
 pub fn inverse_wht(line: &[u8], at: usize) -> Verdict {
     let shift = lines::read_unsigned32(line, at);
     let mut row = [0i64; 4];
