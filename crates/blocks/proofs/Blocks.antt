@@ -4,7 +4,7 @@ use mathlib.Core.Bool.{cond, true, false}
 use mathlib.Core.List.{List}
 use mathlib.Core.Logic.{⊎-elim, _≢_}
 use Prim.Native.Nat.{ℕ, zero, suc, _+_, _*_, _/_, _%_, _≤_, _<_}
-use native.Mathlib.Nat.{eq-or-lt-of-le, mul-one, add-comm, lt-of-lt-of-le, div-add-mod', mod-lt, div-lt-iff-lt-mul}
+use native.Mathlib.Nat.{eq-or-lt-of-le, mul-one, add-comm, lt-of-lt-of-le}
 use native.Mathlib.Omega.{arith}
 use borrow.Author.Tests.{lt-ltb, le-ltb}
 use lib.Arith.{digits-div, digits-mod, digits-lt}
@@ -17,7 +17,7 @@ use Rattle.whole.specs.Loops.{times}
 use Rattle.whole.proofs.Lists.{length-tabulate, getD-tabulate}
 use Rattle.whole.proofs.Loops.{times-keeps}
 use Rattle.blocks.specs.Block.{line, row, column, anew, rows, columns, put, on}
-use Rattle.blocks.proofs.Places.{in-row, in-column, rows-apart, columns-apart, le-or-lt}
+use Rattle.blocks.proofs.Places.{in-row, in-column, rows-apart, columns-apart, le-or-lt, by-place}
 use Rattle.blocks.proofs.Lines.{line-same, on-length, on-other, on-at}
 
 -- ---- a block made anew
@@ -41,19 +41,11 @@ module _ (n0 : ℕ) (f : ℕ → ℕ → ℤ) (s : List ℤ) where
       ∙ rw (le-ltb p (n0 * n0) h))
       (le-or-lt (length s) p)
 
-positive : (n p : ℕ) → p < n * n → 0 < n
-positive zero p h = absurd (omega arith)
-positive (suc n) p h = omega arith
-
 -- two lists of one length that agree in the block and past it
 pub block-ext : (n0 : ℕ) (s u : List ℤ) → length s ≡ length u → ((i j : ℕ) → i < n0 → j < n0 → getD s (i * n0 + j) (pos 0) ≡ getD u (i * n0 + j) (pos 0))
     → ((p : ℕ) → n0 * n0 ≤ p → getD s p (pos 0) ≡ getD u p (pos 0)) → s ≡ u
-block-ext n0 s u l inside past = ext-getD (pos 0) s u l (λ p _. ⊎-elim
-    (past p)
-    (λ (q : p < n0 * n0).
-    let pos0 : 0 < n0 = positive n0 p q in
-    rw (← (div-add-mod' p n0)) (inside (p / n0) (p % n0) (div-lt-iff-lt-mul pos0 .1 q) (mod-lt p pos0)))
-    (le-or-lt (n0 * n0) p))
+block-ext n0 s u l inside past =
+    ext-getD (pos 0) s u l (λ p _. ⊎-elim (past p) (by-place n0 (λ p. getD s p (pos 0) ≡ getD u p (pos 0)) inside p) (le-or-lt (n0 * n0) p))
 
 -- ---- M lines that do not meet: the place `base i + k * step` is of one i and one k alone
 module _ (T : List ℤ → List ℤ) (r : ℤ → ℤ) (base : ℕ → ℕ) (step n M : ℕ)

@@ -2,3 +2,7 @@ pub mod Places
 pub mod Lines
 pub mod Live
 pub mod Blocks
+pub mod Passes
+pub mod Inverse
+pub mod Worked
+pub mod Turns

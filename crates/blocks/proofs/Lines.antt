@@ -43,7 +43,7 @@ unfolding line
 line-at start step n s k h l = fill-at n (λ k. getD s (start + k * step) (pos 0)) (replicate 32 (pos 0)) k h l
 
 -- 0 of zeros, within them and past their end
-zeros-at : (n k : ℕ) → getD (replicate n (pos 0)) k (pos 0) ≡ pos 0
+pub zeros-at : (n k : ℕ) → getD (replicate n (pos 0)) k (pos 0) ≡ pos 0
 zeros-at zero k = refl
 zeros-at (suc n) zero = refl
 zeros-at (suc n) (suc k) = zeros-at n k

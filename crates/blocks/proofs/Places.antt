@@ -2,7 +2,7 @@
 use mathlib.Core.Path.{_≡_, sym, ap, _∙_}
 use mathlib.Core.Logic.{_⊎_, inl, inr, ⊎-elim}
 use Prim.Native.Nat.{ℕ, zero, suc, _+_, _*_, _/_, _%_, _≤_, _<_}
-use native.Mathlib.Nat.{mul-one, add-comm, lt-of-lt-of-le}
+use native.Mathlib.Nat.{mul-one, add-comm, lt-of-lt-of-le, div-add-mod', mod-lt, div-lt-iff-lt-mul}
 use native.Mathlib.Omega.{arith}
 use lib.Arith.{digits-lt, digits-div, digits-mod}
 
@@ -27,3 +27,13 @@ pub le-or-lt : (a b : ℕ) → (a ≤ b) ⊎ (b < a)
 le-or-lt zero b = inl (omega arith)
 le-or-lt (suc a) zero = inr (omega arith)
 le-or-lt (suc a) (suc b) = ⊎-elim (λ (h : a ≤ b). inl (omega arith)) (λ (h : b < a). inr (omega arith)) (le-or-lt a b)
+
+positive : (n p : ℕ) → p < n * n → 0 < n
+positive zero p h = absurd (omega arith)
+positive (suc n) p h = omega arith
+
+-- every place of the block is one of a row and a column
+pub by-place : (n0 : ℕ) (Q : ℕ → Type 0) → ((i j : ℕ) → i < n0 → j < n0 → Q (i * n0 + j)) → (p : ℕ) → p < n0 * n0 → Q p
+by-place n0 Q f p h =
+    let some : 0 < n0 = positive n0 p h in
+    rw (div-add-mod' p n0) at (f (p / n0) (p % n0) (div-lt-iff-lt-mul some .1 h) (mod-lt p some))

@@ -42,8 +42,8 @@ unfoldable pub on : (List ℤ → List ℤ) → (ℤ → ℤ) → ℕ → ℕ �
 on T r start step n s = put r start step n (T (line start step n s)) s
 
 -- the two passes: all rows through R, then all columns through C, each number then through r
-unfoldable pub passes : (List ℤ → List ℤ) → (List ℤ → List ℤ) → (ℤ → ℤ) → ℕ → List ℤ → List ℤ
-passes R C r n0 s = columns C r n0 (rows R n0 s)
+unfoldable pub rowsThenColumns : (List ℤ → List ℤ) → (List ℤ → List ℤ) → (ℤ → ℤ) → ℕ → List ℤ → List ℤ
+rowsThenColumns R C r n0 s = columns C r n0 (rows R n0 s)
 
 -- of the n numbers from `start` on some is not 0
 unfoldable pub live : ℕ → ℕ → List ℤ → Bool

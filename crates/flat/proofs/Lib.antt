@@ -1,3 +1,5 @@
 mod Three
 mod Table
 mod Straight
+mod Four
+mod Arrays

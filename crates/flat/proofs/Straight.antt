@@ -1,35 +1,37 @@
 -- Code of literal calls in a row: call number k does step number k of a list.
 use mathlib.Core.Path.{_≡_, refl, subst, _∙_}
 use mathlib.Core.List.{List, [], _∷_, _++_}
-use Prim.Native.Nat.{ℕ, suc, _<_, _≤_}
+use Prim.Native.Nat.{ℕ, suc, _<_}
 use lib.ListN.{length, getD, drop}
 use lib.Seq.{drop-cons}
 use Rattle.whole.specs.Steps.{run, Ok, none, next as then, Left}
 use Rattle.whole.proofs.Steps.{run-join, ok-join, left-all, left-fine, left-next, left-none}
 
--- k steps of ss are done, from some start, and u is reached
-pub record Done {A S : Type 0} (step : A → S → S) (Fine : A → S → Type 0) (ss : List A) (k : ℕ) (u : S) : Type 0 where
+-- k steps of ss are done, from `start`, and `here` is reached
+pub record Done {A S : Type 0} (step : A → S → S) (Fine : A → S → Type 0) (ss : List A) (k : ℕ) : Type 0 where
   pub start : S
-  pub left : Left step Fine (drop k ss) u (run step ss start)
+  pub here : S
+  pub left : Left step Fine (drop k ss) here (run step ss start)
 
 module _ {A S : Type 0} {step : A → S → S} {Fine : A → S → Type 0} {ss : List A} where
-  abbrev pub begin : {t : S} → Ok step Fine ss t → Done step Fine ss 0 t
-  begin {t} h = record { start = t; left = left-all h }
+  abbrev pub begin : {t : S} → Ok step Fine ss t → Done step Fine ss 0
+  begin {t} h = record { start = t; here = t; left = left-all h }
 
-  -- a is any step
-  pub call : (a : A) {k : ℕ} {u : S} → Done step Fine ss k u → k < length ss → Fine (getD ss k a) u
-  call a {k} {u} d h =
-      left-fine (subst (λ (xs : List A). Left step Fine xs u (run step ss (d .start))) (drop-cons ss k a h) (d .left))
+  -- what call k asks; a is any step
+  pub call : (a : A) {k : ℕ} (d : Done step Fine ss k) → k < length ss → Fine (getD ss k a) (d .here)
+  call a {k} d h =
+      left-fine (subst (λ (xs : List A). Left step Fine xs (d .here) (run step ss (d .start))) (drop-cons ss k a h) (d .left))
 
-  pub more : (a : A) {k : ℕ} {u v : S} (d : Done step Fine ss k u) → k < length ss → v ≡ step (getD ss k a) u → Left step Fine (drop (suc k) ss) v (run step ss (d .start))
-  more a {k} {u} d h e =
-      left-next (subst (λ (xs : List A). Left step Fine xs u (run step ss (d .start))) (drop-cons ss k a h) (d .left)) e
+  pub more : (a : A) {k : ℕ} {u : S} (d : Done step Fine ss k) → k < length ss → u ≡ step (getD ss k a) (d .here) → Left step Fine (drop (suc k) ss) u (run step ss (d .start))
+  more a {k} d h e =
+      left-next (subst (λ (xs : List A). Left step Fine xs (d .here) (run step ss (d .start))) (drop-cons ss k a h) (d .left)) e
 
-  abbrev pub next : (a : A) {k : ℕ} {u v : S} → Done step Fine ss k u → k < length ss → v ≡ step (getD ss k a) u → Done step Fine ss (suc k) v
-  next a d h e = record { start = d .start; left = more a d h e }
+  -- after call k
+  abbrev pub next : (a : A) {k : ℕ} {u : S} (d : Done step Fine ss k) → k < length ss → u ≡ step (getD ss k a) (d .here) → Done step Fine ss (suc k)
+  next a {k} {u} d h e = record { start = d .start; here = u; left = more a d h e }
 
-  pub end : {k : ℕ} {u : S} (d : Done step Fine ss k u) → drop k ss ≡ [] → u ≡ run step ss (d .start)
-  end {k} {u} d e = left-none (subst (λ (xs : List A). Left step Fine xs u (run step ss (d .start))) e (d .left))
+  pub end : {k : ℕ} (d : Done step Fine ss k) → drop k ss ≡ [] → d .here ≡ run step ss (d .start)
+  end {k} d e = left-none (subst (λ (xs : List A). Left step Fine xs (d .here) (run step ss (d .start))) e (d .left))
 
 -- calls that do a list of steps each: a list is a step of the code
 unfoldable pub joined : {A : Type 0} → List (List A) → List A

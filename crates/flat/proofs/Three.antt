@@ -1,13 +1,19 @@
 -- A rotation by three products.
-use mathlib.Core.Path.{_≡_}
-use Prim.Native.Nat.{_^_}
+use mathlib.Core.Path.{_≡_, _∙_}
+use Prim.Native.Nat.{_^_, _<_}
 use native.Mathlib.Omega.{arith}
-use lib.Dec.{lit≤}
+use lib.Dec.{lit≤, lit<}
 use lib.IntN.{ℤ, _+ℤ_, _-ℤ_, _*ℤ_}
+use lib.Signed.{mag}
+use mir.Syntax.{w32, w64}
+use mir.Val.{SFits, hbits}
+use mir.Facts.{toZ-ofZ}
 use Rattle.whole.specs.Ring.{at, _⊕_, _⊖_, _⊗_}
+use Rattle.whole.specs.Signed.{rd}
 use Rattle.whole.specs.Within.{Within}
+use Rattle.whole.proofs.Signed.{rd-ok}
 use Rattle.whole.proofs.Ring.{ring}
-use Rattle.whole.proofs.Within.{within-le, within-add, within-sub, within-mul}
+use Rattle.whole.proofs.Within.{back, within-le, within-add, within-sub, within-mul}
 use Rattle.primitives.specs.Cosine.{Cos64, Sin64}
 use Rattle.primitives.specs.Rotations.{turnX, turnY}
 use Rattle.primitives.proofs.Cosine.{cos-within, sin-within}
@@ -35,3 +41,8 @@ turnX-within g h k = within-le (lit≤ tt) (within-sub (within-mul h (cos-within
 pub turnY-within : {p q : ℤ} (g : ℤ) → Within (2 ^ 46) p → Within (2 ^ 46) q → Within (2 ^ 61) (turnY p q g)
 unfolding turnY
 turnY-within g h k = within-le (lit≤ tt) (within-add (within-mul h (sin-within g)) (within-mul k (cos-within g)))
+
+-- a value of a rotation as the caller has it, who read the operands from an array and the angle from a parameter
+pub rotated : (f : ℤ → ℤ → ℤ → ℤ) {p q g z : ℤ} → mag z < 2 ^ hbits w64 → Within (2 ^ 46) p → Within (2 ^ 46) q → SFits w32 g → z ≡ f (rd w64 p) (rd w64 q) (rd w32 g)
+    → rd w64 z ≡ f p q g
+rotated f m h k g e = rd-ok w64 m ∙ (rw (back w64 (lit< tt) h, back w64 (lit< tt) k, toZ-ofZ g) at e)

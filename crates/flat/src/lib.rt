@@ -1,13 +1,13 @@
 ghost use mathlib.Core.Path.{_≡_};
 ghost use Prim.Native.Nat.{ℕ, _+_, _^_, _≤_, _<_};
-ghost use lib.IntN.{pos};
+ghost use lib.ListN.{length, getD};
 ghost use Rattle.whole.specs.Within.{Within};
 ghost use Rattle.primitives.specs.Rotations.{turnX, turnY};
-ghost use Rattle.primitives.specs.Brev.{Brev};
-ghost use Rattle.flat.specs.Reverses.{Reverses};
-ghost use Rattle.steps.specs.Step.{Bf, Hd, Move, step, Fine};
+ghost use Rattle.steps.specs.Step.{Bf, Hd, Neg, Move, step, Fine};
+ghost use Rattle.steps.specs.Step2.{SB, SH, step2, fresh, Fine2};
 ghost use Rattle.whole.specs.Steps.{run, Ok};
 ghost use Rattle.dct.specs.Dct.{tail, dctRow, dct};
+ghost use Rattle.adst.specs.Adst.{arrays, adstIn, adstOut, adstSteps, adst};
 
 // Entry 32 n + i is brev(n, i) for n of 2 to 5 and i below 2^n; the rest are zeros.
 const BREV: [usize; 192] = [
@@ -236,14 +236,14 @@ fn fb(t: &mut [i64; 32], a: usize, b: usize, angle: i32, flip: bool)
     }
 }
 
-// The permutation: t[i] = copy_t[brev(n, i)], with the table lent, since it folds away only where it is whole in the caller.
-fn permute(t: &mut [i64; 32], brev: &[usize; 192], n: usize, n0: usize)
-    requires { ⌜ (n ≤ 5) × (n0 ≤ 32) × (n0 ≡ 2 ^ n) × Reverses n (now brev) ⌝ }
-    ensures { λ _. ⌜ now (t .exit) ≡ step (Move (2 ^ n) (Brev n)) (now (t .entry)) ⌝ }
+// t[i] = copy_t[from[at + i]] for i below n0. The table is lent: it folds away where the caller has it whole.
+fn reorder(t: &mut [i64; 32], from: &[usize], at: usize, n0: usize)
+    requires { ⌜ (n0 ≤ 32) × (at + n0 ≤ length (now from)) × ((i : ℕ) → i < n0 → getD (now from) (at + i) 0 < 32) ⌝ }
+    ensures { λ _. ⌜ now (t .exit) ≡ step (Move n0 (λ i. getD (now (from .entry)) (at + i) 0)) (now (t .entry)) ⌝ }
 {
     let copy_t = *t;
     for i in 0..n0 {
-        t[i] = copy_t[brev[32 * n + i]];
+        t[i] = copy_t[from[at + i]];
     }
 }
 
@@ -385,7 +385,7 @@ pub fn idct_fast2(t: &mut [i64; 32])
     ensures { λ _. ⌜ now (t .exit) ≡ dct 2 (now (t .entry)) ⌝ }
 {
     let brev = BREV;
-    permute(t, &brev, 2, 4);
+    reorder(t, &brev, 64, 4);
     fb(t, 0, 1, 16, true);
     dct_level2(t);
 }
@@ -396,7 +396,7 @@ pub fn idct_fast3(t: &mut [i64; 32])
     ensures { λ _. ⌜ now (t .exit) ≡ dct 3 (now (t .entry)) ⌝ }
 {
     let brev = BREV;
-    permute(t, &brev, 3, 8);
+    reorder(t, &brev, 96, 8);
     fb(t, 0, 1, 16, true);
     dct_level2(t);
     dct_level3(t);
@@ -408,7 +408,7 @@ pub fn idct_fast4(t: &mut [i64; 32])
     ensures { λ _. ⌜ now (t .exit) ≡ dct 4 (now (t .entry)) ⌝ }
 {
     let brev = BREV;
-    permute(t, &brev, 4, 16);
+    reorder(t, &brev, 128, 16);
     fb(t, 0, 1, 16, true);
     dct_level2(t);
     dct_level3(t);
@@ -421,10 +421,183 @@ pub fn idct_fast5(t: &mut [i64; 32])
     ensures { λ _. ⌜ now (t .exit) ≡ dct 5 (now (t .entry)) ⌝ }
 {
     let brev = BREV;
-    permute(t, &brev, 5, 32);
+    reorder(t, &brev, 160, 32);
     fb(t, 0, 1, 16, true);
     dct_level2(t);
     dct_level3(t);
     dct_level4(t);
     dct_level5(t);
+}
+
+// SB(a, b, angle, flip): the values of a rotation of t, not rounded, into s.
+fn fsb(t: &[i64; 32], s: &mut [i64; 16], a: usize, b: usize, angle: i32, flip: bool)
+    requires { ⌜ Fine2 (2 ^ 46) (SB a b angle flip) (arrays (now t) (now s)) ⌝ }
+    ensures { λ _. ⌜ arrays (now (t .entry)) (now (s .exit)) ≡ step2 (SB a b angle flip) (arrays (now (t .entry)) (now (s .entry))) ⌝ }
+{
+    let r = turn(t[a], t[b], angle);
+    let x = r.x;
+    let y = r.y;
+    if flip {
+        s[a] = y;
+        s[b] = x;
+    } else {
+        s[a] = x;
+        s[b] = y;
+    }
+}
+
+// SH(a, b): sum and difference of s, rounded, into t.
+fn fsh(t: &mut [i64; 32], s: &[i64; 16], a: usize, b: usize)
+    requires { ⌜ Fine2 (2 ^ 46) (SH a b) (arrays (now t) (now s)) ⌝ }
+    ensures { λ _. ⌜ arrays (now (t .exit)) (now (s .entry)) ≡ step2 (SH a b) (arrays (now (t .entry)) (now (s .entry))) ⌝ }
+{
+    primitives::sh(t, s, a, b);
+}
+
+// t[i] = -t[i].
+fn fneg(t: &mut [i64; 32], i: usize)
+    requires { ⌜ Fine (2 ^ 46) (Neg i) (now t) ⌝ }
+    ensures { λ _. ⌜ now (t .exit) ≡ step (Neg i) (now (t .entry)) ⌝ }
+{
+    t[i] = -t[i];
+}
+
+// The permutation into ADST8. A function of its own, so that the loop unrolls before it meets the calls around it.
+fn input8(t: &mut [i64; 32])
+    ensures { λ _. ⌜ now (t .exit) ≡ step (Move 8 (adstIn 3)) (now (t .entry)) ⌝ }
+{
+    let from = [7, 0, 5, 2, 3, 4, 1, 6];
+    reorder(t, &from, 0, 8);
+}
+
+// The permutation out of ADST8. A function of its own, so that the loop unrolls before it meets the calls around it.
+fn output8(t: &mut [i64; 32])
+    ensures { λ _. ⌜ now (t .exit) ≡ step (Move 8 (adstOut 3)) (now (t .entry)) ⌝ }
+{
+    let from = [0, 4, 6, 2, 3, 7, 5, 1];
+    reorder(t, &from, 0, 8);
+}
+
+// The permutation into ADST16. A function of its own, so that the loop unrolls before it meets the calls around it.
+fn input16(t: &mut [i64; 32])
+    ensures { λ _. ⌜ now (t .exit) ≡ step (Move 16 (adstIn 4)) (now (t .entry)) ⌝ }
+{
+    let from = [15, 0, 13, 2, 11, 4, 9, 6, 7, 8, 5, 10, 3, 12, 1, 14];
+    reorder(t, &from, 0, 16);
+}
+
+// The permutation out of ADST16. A function of its own, so that the loop unrolls before it meets the calls around it.
+fn output16(t: &mut [i64; 32])
+    ensures { λ _. ⌜ now (t .exit) ≡ step (Move 16 (adstOut 4)) (now (t .entry)) ⌝ }
+{
+    let from = [0, 8, 12, 4, 6, 14, 10, 2, 3, 11, 15, 7, 5, 13, 9, 1];
+    reorder(t, &from, 0, 16);
+}
+
+// The inverse ADST of 4 numbers, by six products: SINPI_4_9 is SINPI_1_9 + SINPI_2_9.
+pub fn iadst_fast4(t: &mut [i64; 32])
+    requires { ⌜ Ok step2 (Fine2 (2 ^ 46)) (adstSteps 2) (fresh (now t)) ⌝ }
+    ensures { λ _. ⌜ now (t .exit) ≡ adst 2 (now (t .entry)) ⌝ }
+{
+    let a = t[0];
+    let b = t[1];
+    let c = t[2];
+    let d = t[3];
+    let u = c + d;
+    let x0 = 5283 * (a + c) + 9929 * u;
+    let x1 = 9929 * (a - d) - 5283 * u;
+    let x2 = 13377 * (a - c + d);
+    let x3 = 13377 * b;
+    t[0] = primitives::round2(x0 + x3, 14);
+    t[1] = primitives::round2(x1 + x3, 14);
+    t[2] = primitives::round2(x2, 14);
+    t[3] = primitives::round2(x0 + x1 - x3, 14);
+}
+
+// The inverse ADST of 8 numbers.
+pub fn iadst_fast8(t: &mut [i64; 32])
+    requires { ⌜ Ok step2 (Fine2 (2 ^ 46)) (adstSteps 3) (fresh (now t)) ⌝ }
+    ensures { λ _. ⌜ now (t .exit) ≡ adst 3 (now (t .entry)) ⌝ }
+{
+    let mut s = [0i64; 16];
+    input8(t);
+    fsb(t, &mut s, 0, 1, 30, true);
+    fsb(t, &mut s, 2, 3, 22, true);
+    fsb(t, &mut s, 4, 5, 14, true);
+    fsb(t, &mut s, 6, 7, 6, true);
+    fsh(t, &s, 0, 4);
+    fsh(t, &s, 1, 5);
+    fsh(t, &s, 2, 6);
+    fsh(t, &s, 3, 7);
+    fsb(t, &mut s, 4, 5, 24, true);
+    fsb(t, &mut s, 7, 6, 8, true);
+    fsh(t, &s, 4, 6);
+    fsh(t, &s, 5, 7);
+    fh(t, 0, 2, false);
+    fh(t, 1, 3, false);
+    fb(t, 2, 3, 16, true);
+    fb(t, 6, 7, 16, true);
+    output8(t);
+    fneg(t, 1);
+    fneg(t, 3);
+    fneg(t, 5);
+    fneg(t, 7);
+}
+
+// The inverse ADST of 16 numbers.
+pub fn iadst_fast16(t: &mut [i64; 32])
+    requires { ⌜ Ok step2 (Fine2 (2 ^ 46)) (adstSteps 4) (fresh (now t)) ⌝ }
+    ensures { λ _. ⌜ now (t .exit) ≡ adst 4 (now (t .entry)) ⌝ }
+{
+    let mut s = [0i64; 16];
+    input16(t);
+    fsb(t, &mut s, 0, 1, 31, true);
+    fsb(t, &mut s, 2, 3, 27, true);
+    fsb(t, &mut s, 4, 5, 23, true);
+    fsb(t, &mut s, 6, 7, 19, true);
+    fsb(t, &mut s, 8, 9, 15, true);
+    fsb(t, &mut s, 10, 11, 11, true);
+    fsb(t, &mut s, 12, 13, 7, true);
+    fsb(t, &mut s, 14, 15, 3, true);
+    fsh(t, &s, 0, 8);
+    fsh(t, &s, 1, 9);
+    fsh(t, &s, 2, 10);
+    fsh(t, &s, 3, 11);
+    fsh(t, &s, 4, 12);
+    fsh(t, &s, 5, 13);
+    fsh(t, &s, 6, 14);
+    fsh(t, &s, 7, 15);
+    fsb(t, &mut s, 8, 9, 28, true);
+    fsb(t, &mut s, 10, 11, 12, true);
+    fsb(t, &mut s, 12, 13, -4, true);
+    fsb(t, &mut s, 14, 15, -20, true);
+    fsh(t, &s, 8, 12);
+    fsh(t, &s, 9, 13);
+    fsh(t, &s, 10, 14);
+    fsh(t, &s, 11, 15);
+    fh(t, 0, 4, false);
+    fh(t, 1, 5, false);
+    fh(t, 2, 6, false);
+    fh(t, 3, 7, false);
+    fsb(t, &mut s, 4, 5, 24, true);
+    fsb(t, &mut s, 7, 6, 8, true);
+    fsb(t, &mut s, 12, 13, 24, true);
+    fsb(t, &mut s, 15, 14, 8, true);
+    fsh(t, &s, 4, 6);
+    fsh(t, &s, 5, 7);
+    fsh(t, &s, 12, 14);
+    fsh(t, &s, 13, 15);
+    fh(t, 0, 2, false);
+    fh(t, 1, 3, false);
+    fh(t, 8, 10, false);
+    fh(t, 9, 11, false);
+    fb(t, 2, 3, 48, false);
+    fb(t, 6, 7, 112, false);
+    fb(t, 10, 11, 112, false);
+    fb(t, 14, 15, 48, false);
+    output16(t);
+    fneg(t, 1);
+    fneg(t, 3);
+    fneg(t, 13);
+    fneg(t, 15);
 }

@@ -114,7 +114,7 @@ fn check(coefs: &[i64], dc: DcQuant, ac: AcQuant, size: u32, depth: u32) -> Answ
 
 // The token of the coefficient at place k: DC at place 0, AC at all others.
 fn token_at(k: usize, coef: i64, dc: DcQuant, ac: AcQuant, size: u32, most: u64) -> i64
-    requires { ⌜ (badQuantizer (dc .0) ≡ false) × (badQuantizer (ac .0) ≡ false) × (natAbs coef ≤ 2147483648) × (most ≤ codeable 12) ⌝ }
+    requires { ⌜ (badQuantizer (dc .0) ≡ false) × (badQuantizer (ac .0) ≡ false) × (natAbs coef ≤ 2 ^ 31) × (most ≤ codeable 12) ⌝ }
     ensures { λ r. ⌜ r ≡ quantize size most (quantizerAt dc ac k) coef ⌝ }
 {
     if k == 0 {
@@ -125,7 +125,7 @@ fn token_at(k: usize, coef: i64, dc: DcQuant, ac: AcQuant, size: u32, most: u64)
 
 // Each coefficient becomes its token.
 fn tokens_in_place(coefs: &mut [i64], dc: DcQuant, ac: AcQuant, size: u32, depth: u32)
-    requires { ⌜ (badQuantizer (dc .0) ≡ false) × (badQuantizer (ac .0) ≡ false) × ((k : ℕ) → k < length (now coefs) → natAbs (getD (now coefs) k (pos 0)) ≤ 2147483648) ⌝ }
+    requires { ⌜ (badQuantizer (dc .0) ≡ false) × (badQuantizer (ac .0) ≡ false) × ((k : ℕ) → k < length (now coefs) → natAbs (getD (now coefs) k (pos 0)) ≤ 2 ^ 31) ⌝ }
     ensures { λ _. ⌜ now (coefs .exit) ≡ tokensOf (record { coefs = now (coefs .entry); dc = dc; ac = ac; size = size; depth = depth }) ⌝ }
 {
     let most = max_codeable_coef(depth) as u64;

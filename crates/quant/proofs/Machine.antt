@@ -67,9 +67,9 @@ sign-plus (pos a) m h = refl
 sign-plus (negsuc a) m h = absurd (omega (arith, ltZ-false (negsuc a) (pos 0) h))
 
 -- a coefficient's magnitude, doubled
-pub wide-most : (size a : ℕ) → a ≤ 2147483648 → a * dqDenom size ≤ 4294967296
+pub wide-most : (size a : ℕ) → a ≤ 2 ^ 31 → a * dqDenom size ≤ 2 ^ 32
 wide-most size a h = go (eqb size 3) refl
   where
-    go : (b : Bool) → eqb size 3 ≡ b → a * dqDenom size ≤ 4294967296
+    go : (b : Bool) → eqb size 3 ≡ b → a * dqDenom size ≤ 2 ^ 32
     go true e = rw e (omega arith)
     go false e = rw e (omega arith)

@@ -2,7 +2,7 @@ use answers::QUANT_LIMIT;
 use answers::magnitude;
 ghost use mathlib.Core.Bool.{false};
 ghost use mathlib.Core.Path.{_≡_};
-ghost use Prim.Native.Nat.{min, _*_, _≤_};
+ghost use Prim.Native.Nat.{min, _*_, _^_, _≤_};
 ghost use lib.IntN.{pos, natAbs};
 ghost use lib.Signed.{quotZ};
 ghost use Rattle.answers.specs.Bad.{badQuantizer};
@@ -39,7 +39,7 @@ fn divided(product: i64, size: u32) -> i64
 
 // The magnitude, doubled at 32 by 32.
 fn widened(coef: i64, size: u32) -> u64
-    requires { ⌜ natAbs coef ≤ 2147483648 ⌝ }
+    requires { ⌜ natAbs coef ≤ 2 ^ 31 ⌝ }
     ensures { λ r. ⌜ r ≡ natAbs coef * dqDenom size ⌝ }
 {
     let a = magnitude(coef);
@@ -94,7 +94,7 @@ impl DcQuant {
 
     // The token of a coefficient, at most `most` in magnitude.
     pub fn quantize(self, coef: i64, size: u32, most: u64) -> i64
-        requires { ⌜ (badQuantizer (self .0) ≡ false) × (natAbs coef ≤ 2147483648) × (most ≤ codeable 12) ⌝ }
+        requires { ⌜ (badQuantizer (self .0) ≡ false) × (natAbs coef ≤ 2 ^ 31) × (most ≤ codeable 12) ⌝ }
         ensures { λ r. ⌜ r ≡ quantize size most (self .0) coef ⌝ }
     {
         let signed = self.0;
@@ -127,7 +127,7 @@ impl AcQuant {
 
     // The token of a coefficient, at most `most` in magnitude.
     pub fn quantize(self, coef: i64, size: u32, most: u64) -> i64
-        requires { ⌜ (badQuantizer (self .0) ≡ false) × (natAbs coef ≤ 2147483648) × (most ≤ codeable 12) ⌝ }
+        requires { ⌜ (badQuantizer (self .0) ≡ false) × (natAbs coef ≤ 2 ^ 31) × (most ≤ codeable 12) ⌝ }
         ensures { λ r. ⌜ r ≡ quantize size most (self .0) coef ⌝ }
     {
         let signed = self.0;

@@ -14,7 +14,6 @@ use Rattle.adst.proofs.inverse_adst16.Statement.{statement}
 use Rattle.adst.proofs.inverse_adst16.Tie as tie
 
 -- what is left to run after each call
-
 abbrev r11 : List Step2
 r11 = onT (each 2 (λ j. each 2 (sixteen12 j)))
 

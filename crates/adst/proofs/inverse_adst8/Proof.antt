@@ -14,7 +14,6 @@ use Rattle.adst.proofs.inverse_adst8.Statement.{statement}
 use Rattle.adst.proofs.inverse_adst8.Tie as tie
 
 -- what is left to run after each call
-
 abbrev r8 : List Step2
 r8 = onT (each 4 eight9)
 

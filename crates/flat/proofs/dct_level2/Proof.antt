@@ -21,20 +21,20 @@ all : tail 2 ≡ steps
 unfolding tail tailAt steps2 steps3 steps4 steps5 steps6 steps7 each when Brev
 all = refl
 
--- after k calls t is u
-abbrev At : ℕ → List ℤ → Type 0
-At k u = Done step (Fine (2 ^ 46)) steps k u
+-- after k calls
+abbrev At : ℕ → Type 0
+At k = Done step (Fine (2 ^ 46)) steps k
 
-abbrev at0 : (c : tie.Start) → At 0 (c .args .t .now)
+abbrev at0 : tie.Start → At 0
 at0 c = begin (subst (λ (ss : List Step). Ok step (Fine (2 ^ 46)) ss (c .args .t .now)) all (c .pre))
 
-abbrev at1 : (c : tie.After-fb) → At 1 (c .fb .last .0)
+abbrev at1 : tie.After-fb → At 1
 at1 c = next A4 (at0 (c .before .before)) (lit< tt) (c .fb .ensures)
 
-abbrev at2 : (c : tie.After-fh) → At 2 (c .fh .last .0)
+abbrev at2 : tie.After-fh → At 2
 at2 c = next A4 (at1 (c .before .before)) (lit< tt) (c .fh .ensures)
 
-abbrev at3 : (c : tie.After-fh2) → At 3 (c .fh2 .last .0)
+abbrev at3 : tie.After-fh2 → At 3
 at3 c = next A4 (at2 (c .before .before)) (lit< tt) (c .fh2 .ensures)
 
 returns : tie.Need-returns

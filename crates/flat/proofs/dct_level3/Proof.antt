@@ -22,38 +22,38 @@ all : tail 3 ≡ steps
 unfolding tail tailAt steps2 steps3 steps4 steps5 steps6 steps7 each when Brev
 all = refl
 
--- after k calls t is u
-abbrev At : ℕ → List ℤ → Type 0
-At k u = Done step (Fine (2 ^ 46)) steps k u
+-- after k calls
+abbrev At : ℕ → Type 0
+At k = Done step (Fine (2 ^ 46)) steps k
 
-abbrev at0 : (c : tie.Start) → At 0 (c .args .t .now)
+abbrev at0 : tie.Start → At 0
 at0 c = begin (subst (λ (ss : List Step). Ok step (Fine (2 ^ 46)) ss (c .args .t .now)) all (c .pre))
 
-abbrev at1 : (c : tie.After-fb) → At 1 (c .fb .last .0)
+abbrev at1 : tie.After-fb → At 1
 at1 c = next A4 (at0 (c .before .before)) (lit< tt) (c .fb .ensures)
 
-abbrev at2 : (c : tie.After-fb2) → At 2 (c .fb2 .last .0)
+abbrev at2 : tie.After-fb2 → At 2
 at2 c = next A4 (at1 (c .before .before)) (lit< tt) (c .fb2 .ensures)
 
-abbrev at3 : (c : tie.After-fh) → At 3 (c .fh .last .0)
+abbrev at3 : tie.After-fh → At 3
 at3 c = next A4 (at2 (c .before .before)) (lit< tt) (c .fh .ensures)
 
-abbrev at4 : (c : tie.After-fh2) → At 4 (c .fh2 .last .0)
+abbrev at4 : tie.After-fh2 → At 4
 at4 c = next A4 (at3 (c .before .before)) (lit< tt) (c .fh2 .ensures)
 
-abbrev at5 : (c : tie.After-fb3) → At 5 (c .fb3 .last .0)
+abbrev at5 : tie.After-fb3 → At 5
 at5 c = next A4 (at4 (c .before .before)) (lit< tt) (c .fb3 .ensures)
 
-abbrev at6 : (c : tie.After-fh3) → At 6 (c .fh3 .last .0)
+abbrev at6 : tie.After-fh3 → At 6
 at6 c = next A4 (at5 (c .before .before)) (lit< tt) (c .fh3 .ensures)
 
-abbrev at7 : (c : tie.After-fh4) → At 7 (c .fh4 .last .0)
+abbrev at7 : tie.After-fh4 → At 7
 at7 c = next A4 (at6 (c .before .before)) (lit< tt) (c .fh4 .ensures)
 
-abbrev at8 : (c : tie.After-fh5) → At 8 (c .fh5 .last .0)
+abbrev at8 : tie.After-fh5 → At 8
 at8 c = next A4 (at7 (c .before .before)) (lit< tt) (c .fh5 .ensures)
 
-abbrev at9 : (c : tie.After-fh6) → At 9 (c .fh6 .last .0)
+abbrev at9 : tie.After-fh6 → At 9
 at9 c = next A4 (at8 (c .before .before)) (lit< tt) (c .fh6 .ensures)
 
 returns : tie.Need-returns

@@ -24,83 +24,83 @@ all : tail 4 ≡ steps
 unfolding tail tailAt steps2 steps3 steps4 steps5 steps6 steps7 each when Brev
 all = refl
 
--- after k calls t is u
-abbrev At : ℕ → List ℤ → Type 0
-At k u = Done step (Fine (2 ^ 46)) steps k u
+-- after k calls
+abbrev At : ℕ → Type 0
+At k = Done step (Fine (2 ^ 46)) steps k
 
-abbrev at0 : (c : tie.Start) → At 0 (c .args .t .now)
+abbrev at0 : tie.Start → At 0
 at0 c = begin (subst (λ (ss : List Step). Ok step (Fine (2 ^ 46)) ss (c .args .t .now)) all (c .pre))
 
-abbrev at1 : (c : tie.After-fb) → At 1 (c .fb .last .0)
+abbrev at1 : tie.After-fb → At 1
 at1 c = next A4 (at0 (c .before .before)) (lit< tt) (c .fb .ensures)
 
-abbrev at2 : (c : tie.After-fb2) → At 2 (c .fb2 .last .0)
+abbrev at2 : tie.After-fb2 → At 2
 at2 c = next A4 (at1 (c .before .before)) (lit< tt) (c .fb2 .ensures)
 
-abbrev at3 : (c : tie.After-fb3) → At 3 (c .fb3 .last .0)
+abbrev at3 : tie.After-fb3 → At 3
 at3 c = next A4 (at2 (c .before .before)) (lit< tt) (c .fb3 .ensures)
 
-abbrev at4 : (c : tie.After-fb4) → At 4 (c .fb4 .last .0)
+abbrev at4 : tie.After-fb4 → At 4
 at4 c = next A4 (at3 (c .before .before)) (lit< tt) (c .fb4 .ensures)
 
-abbrev at5 : (c : tie.After-fh) → At 5 (c .fh .last .0)
+abbrev at5 : tie.After-fh → At 5
 at5 c = next A4 (at4 (c .before .before)) (lit< tt) (c .fh .ensures)
 
-abbrev at6 : (c : tie.After-fh2) → At 6 (c .fh2 .last .0)
+abbrev at6 : tie.After-fh2 → At 6
 at6 c = next A4 (at5 (c .before .before)) (lit< tt) (c .fh2 .ensures)
 
-abbrev at7 : (c : tie.After-fh3) → At 7 (c .fh3 .last .0)
+abbrev at7 : tie.After-fh3 → At 7
 at7 c = next A4 (at6 (c .before .before)) (lit< tt) (c .fh3 .ensures)
 
-abbrev at8 : (c : tie.After-fh4) → At 8 (c .fh4 .last .0)
+abbrev at8 : tie.After-fh4 → At 8
 at8 c = next A4 (at7 (c .before .before)) (lit< tt) (c .fh4 .ensures)
 
-abbrev at9 : (c : tie.After-fb5) → At 9 (c .fb5 .last .0)
+abbrev at9 : tie.After-fb5 → At 9
 at9 c = next A4 (at8 (c .before .before)) (lit< tt) (c .fb5 .ensures)
 
-abbrev at10 : (c : tie.After-fb6) → At 10 (c .fb6 .last .0)
+abbrev at10 : tie.After-fb6 → At 10
 at10 c = next A4 (at9 (c .before .before)) (lit< tt) (c .fb6 .ensures)
 
-abbrev at11 : (c : tie.After-fh5) → At 11 (c .fh5 .last .0)
+abbrev at11 : tie.After-fh5 → At 11
 at11 c = next A4 (at10 (c .before .before)) (lit< tt) (c .fh5 .ensures)
 
-abbrev at12 : (c : tie.After-fh6) → At 12 (c .fh6 .last .0)
+abbrev at12 : tie.After-fh6 → At 12
 at12 c = next A4 (at11 (c .before .before)) (lit< tt) (c .fh6 .ensures)
 
-abbrev at13 : (c : tie.After-fh7) → At 13 (c .fh7 .last .0)
+abbrev at13 : tie.After-fh7 → At 13
 at13 c = next A4 (at12 (c .before .before)) (lit< tt) (c .fh7 .ensures)
 
-abbrev at14 : (c : tie.After-fh8) → At 14 (c .fh8 .last .0)
+abbrev at14 : tie.After-fh8 → At 14
 at14 c = next A4 (at13 (c .before .before)) (lit< tt) (c .fh8 .ensures)
 
-abbrev at15 : (c : tie.After-fb7) → At 15 (c .fb7 .last .0)
+abbrev at15 : tie.After-fb7 → At 15
 at15 c = next A4 (at14 (c .before .before)) (lit< tt) (c .fb7 .ensures)
 
-abbrev at16 : (c : tie.After-fb8) → At 16 (c .fb8 .last .0)
+abbrev at16 : tie.After-fb8 → At 16
 at16 c = next A4 (at15 (c .before .before)) (lit< tt) (c .fb8 .ensures)
 
-abbrev at17 : (c : tie.After-fh9) → At 17 (c .fh9 .last .0)
+abbrev at17 : tie.After-fh9 → At 17
 at17 c = next A4 (at16 (c .before .before)) (lit< tt) (c .fh9 .ensures)
 
-abbrev at18 : (c : tie.After-fh10) → At 18 (c .fh10 .last .0)
+abbrev at18 : tie.After-fh10 → At 18
 at18 c = next A4 (at17 (c .before .before)) (lit< tt) (c .fh10 .ensures)
 
-abbrev at19 : (c : tie.After-fh11) → At 19 (c .fh11 .last .0)
+abbrev at19 : tie.After-fh11 → At 19
 at19 c = next A4 (at18 (c .before .before)) (lit< tt) (c .fh11 .ensures)
 
-abbrev at20 : (c : tie.After-fh12) → At 20 (c .fh12 .last .0)
+abbrev at20 : tie.After-fh12 → At 20
 at20 c = next A4 (at19 (c .before .before)) (lit< tt) (c .fh12 .ensures)
 
-abbrev at21 : (c : tie.After-fh13) → At 21 (c .fh13 .last .0)
+abbrev at21 : tie.After-fh13 → At 21
 at21 c = next A4 (at20 (c .before .before)) (lit< tt) (c .fh13 .ensures)
 
-abbrev at22 : (c : tie.After-fh14) → At 22 (c .fh14 .last .0)
+abbrev at22 : tie.After-fh14 → At 22
 at22 c = next A4 (at21 (c .before .before)) (lit< tt) (c .fh14 .ensures)
 
-abbrev at23 : (c : tie.After-fh15) → At 23 (c .fh15 .last .0)
+abbrev at23 : tie.After-fh15 → At 23
 at23 c = next A4 (at22 (c .before .before)) (lit< tt) (c .fh15 .ensures)
 
-abbrev at24 : (c : tie.After-fh16) → At 24 (c .fh16 .last .0)
+abbrev at24 : tie.After-fh16 → At 24
 at24 c = next A4 (at23 (c .before .before)) (lit< tt) (c .fh16 .ensures)
 
 returns : tie.Need-returns

@@ -29,191 +29,191 @@ all : tail 5 ≡ steps
 unfolding tail tailAt steps2 steps3 steps4 steps5 steps6 steps7 each when Brev
 all = refl
 
--- after k calls t is u
-abbrev At : ℕ → List ℤ → Type 0
-At k u = Done step (Fine (2 ^ 46)) steps k u
+-- after k calls
+abbrev At : ℕ → Type 0
+At k = Done step (Fine (2 ^ 46)) steps k
 
-abbrev at0 : (c : tie.Start) → At 0 (c .args .t .now)
+abbrev at0 : tie.Start → At 0
 at0 c = begin (subst (λ (ss : List Step). Ok step (Fine (2 ^ 46)) ss (c .args .t .now)) all (c .pre))
 
-abbrev at1 : (c : tie.After-fb) → At 1 (c .fb .last .0)
+abbrev at1 : tie.After-fb → At 1
 at1 c = next A4 (at0 (c .before .before)) (lit< tt) (c .fb .ensures)
 
-abbrev at2 : (c : tie.After-fb2) → At 2 (c .fb2 .last .0)
+abbrev at2 : tie.After-fb2 → At 2
 at2 c = next A4 (at1 (c .before .before)) (lit< tt) (c .fb2 .ensures)
 
-abbrev at3 : (c : tie.After-fb3) → At 3 (c .fb3 .last .0)
+abbrev at3 : tie.After-fb3 → At 3
 at3 c = next A4 (at2 (c .before .before)) (lit< tt) (c .fb3 .ensures)
 
-abbrev at4 : (c : tie.After-fb4) → At 4 (c .fb4 .last .0)
+abbrev at4 : tie.After-fb4 → At 4
 at4 c = next A4 (at3 (c .before .before)) (lit< tt) (c .fb4 .ensures)
 
-abbrev at5 : (c : tie.After-fb5) → At 5 (c .fb5 .last .0)
+abbrev at5 : tie.After-fb5 → At 5
 at5 c = next A4 (at4 (c .before .before)) (lit< tt) (c .fb5 .ensures)
 
-abbrev at6 : (c : tie.After-fb6) → At 6 (c .fb6 .last .0)
+abbrev at6 : tie.After-fb6 → At 6
 at6 c = next A4 (at5 (c .before .before)) (lit< tt) (c .fb6 .ensures)
 
-abbrev at7 : (c : tie.After-fb7) → At 7 (c .fb7 .last .0)
+abbrev at7 : tie.After-fb7 → At 7
 at7 c = next A4 (at6 (c .before .before)) (lit< tt) (c .fb7 .ensures)
 
-abbrev at8 : (c : tie.After-fb8) → At 8 (c .fb8 .last .0)
+abbrev at8 : tie.After-fb8 → At 8
 at8 c = next A4 (at7 (c .before .before)) (lit< tt) (c .fb8 .ensures)
 
-abbrev at9 : (c : tie.After-fh) → At 9 (c .fh .last .0)
+abbrev at9 : tie.After-fh → At 9
 at9 c = next A4 (at8 (c .before .before)) (lit< tt) (c .fh .ensures)
 
-abbrev at10 : (c : tie.After-fh2) → At 10 (c .fh2 .last .0)
+abbrev at10 : tie.After-fh2 → At 10
 at10 c = next A4 (at9 (c .before .before)) (lit< tt) (c .fh2 .ensures)
 
-abbrev at11 : (c : tie.After-fh3) → At 11 (c .fh3 .last .0)
+abbrev at11 : tie.After-fh3 → At 11
 at11 c = next A4 (at10 (c .before .before)) (lit< tt) (c .fh3 .ensures)
 
-abbrev at12 : (c : tie.After-fh4) → At 12 (c .fh4 .last .0)
+abbrev at12 : tie.After-fh4 → At 12
 at12 c = next A4 (at11 (c .before .before)) (lit< tt) (c .fh4 .ensures)
 
-abbrev at13 : (c : tie.After-fh5) → At 13 (c .fh5 .last .0)
+abbrev at13 : tie.After-fh5 → At 13
 at13 c = next A4 (at12 (c .before .before)) (lit< tt) (c .fh5 .ensures)
 
-abbrev at14 : (c : tie.After-fh6) → At 14 (c .fh6 .last .0)
+abbrev at14 : tie.After-fh6 → At 14
 at14 c = next A4 (at13 (c .before .before)) (lit< tt) (c .fh6 .ensures)
 
-abbrev at15 : (c : tie.After-fh7) → At 15 (c .fh7 .last .0)
+abbrev at15 : tie.After-fh7 → At 15
 at15 c = next A4 (at14 (c .before .before)) (lit< tt) (c .fh7 .ensures)
 
-abbrev at16 : (c : tie.After-fh8) → At 16 (c .fh8 .last .0)
+abbrev at16 : tie.After-fh8 → At 16
 at16 c = next A4 (at15 (c .before .before)) (lit< tt) (c .fh8 .ensures)
 
-abbrev at17 : (c : tie.After-fb9) → At 17 (c .fb9 .last .0)
+abbrev at17 : tie.After-fb9 → At 17
 at17 c = next A4 (at16 (c .before .before)) (lit< tt) (c .fb9 .ensures)
 
-abbrev at18 : (c : tie.After-fb10) → At 18 (c .fb10 .last .0)
+abbrev at18 : tie.After-fb10 → At 18
 at18 c = next A4 (at17 (c .before .before)) (lit< tt) (c .fb10 .ensures)
 
-abbrev at19 : (c : tie.After-fb11) → At 19 (c .fb11 .last .0)
+abbrev at19 : tie.After-fb11 → At 19
 at19 c = next A4 (at18 (c .before .before)) (lit< tt) (c .fb11 .ensures)
 
-abbrev at20 : (c : tie.After-fb12) → At 20 (c .fb12 .last .0)
+abbrev at20 : tie.After-fb12 → At 20
 at20 c = next A4 (at19 (c .before .before)) (lit< tt) (c .fb12 .ensures)
 
-abbrev at21 : (c : tie.After-fh9) → At 21 (c .fh9 .last .0)
+abbrev at21 : tie.After-fh9 → At 21
 at21 c = next A4 (at20 (c .before .before)) (lit< tt) (c .fh9 .ensures)
 
-abbrev at22 : (c : tie.After-fh10) → At 22 (c .fh10 .last .0)
+abbrev at22 : tie.After-fh10 → At 22
 at22 c = next A4 (at21 (c .before .before)) (lit< tt) (c .fh10 .ensures)
 
-abbrev at23 : (c : tie.After-fh11) → At 23 (c .fh11 .last .0)
+abbrev at23 : tie.After-fh11 → At 23
 at23 c = next A4 (at22 (c .before .before)) (lit< tt) (c .fh11 .ensures)
 
-abbrev at24 : (c : tie.After-fh12) → At 24 (c .fh12 .last .0)
+abbrev at24 : tie.After-fh12 → At 24
 at24 c = next A4 (at23 (c .before .before)) (lit< tt) (c .fh12 .ensures)
 
-abbrev at25 : (c : tie.After-fh13) → At 25 (c .fh13 .last .0)
+abbrev at25 : tie.After-fh13 → At 25
 at25 c = next A4 (at24 (c .before .before)) (lit< tt) (c .fh13 .ensures)
 
-abbrev at26 : (c : tie.After-fh14) → At 26 (c .fh14 .last .0)
+abbrev at26 : tie.After-fh14 → At 26
 at26 c = next A4 (at25 (c .before .before)) (lit< tt) (c .fh14 .ensures)
 
-abbrev at27 : (c : tie.After-fh15) → At 27 (c .fh15 .last .0)
+abbrev at27 : tie.After-fh15 → At 27
 at27 c = next A4 (at26 (c .before .before)) (lit< tt) (c .fh15 .ensures)
 
-abbrev at28 : (c : tie.After-fh16) → At 28 (c .fh16 .last .0)
+abbrev at28 : tie.After-fh16 → At 28
 at28 c = next A4 (at27 (c .before .before)) (lit< tt) (c .fh16 .ensures)
 
-abbrev at29 : (c : tie.After-fb13) → At 29 (c .fb13 .last .0)
+abbrev at29 : tie.After-fb13 → At 29
 at29 c = next A4 (at28 (c .before .before)) (lit< tt) (c .fb13 .ensures)
 
-abbrev at30 : (c : tie.After-fb14) → At 30 (c .fb14 .last .0)
+abbrev at30 : tie.After-fb14 → At 30
 at30 c = next A4 (at29 (c .before .before)) (lit< tt) (c .fb14 .ensures)
 
-abbrev at31 : (c : tie.After-fb15) → At 31 (c .fb15 .last .0)
+abbrev at31 : tie.After-fb15 → At 31
 at31 c = next A4 (at30 (c .before .before)) (lit< tt) (c .fb15 .ensures)
 
-abbrev at32 : (c : tie.After-fb16) → At 32 (c .fb16 .last .0)
+abbrev at32 : tie.After-fb16 → At 32
 at32 c = next A4 (at31 (c .before .before)) (lit< tt) (c .fb16 .ensures)
 
-abbrev at33 : (c : tie.After-fh17) → At 33 (c .fh17 .last .0)
+abbrev at33 : tie.After-fh17 → At 33
 at33 c = next A4 (at32 (c .before .before)) (lit< tt) (c .fh17 .ensures)
 
-abbrev at34 : (c : tie.After-fh18) → At 34 (c .fh18 .last .0)
+abbrev at34 : tie.After-fh18 → At 34
 at34 c = next A4 (at33 (c .before .before)) (lit< tt) (c .fh18 .ensures)
 
-abbrev at35 : (c : tie.After-fh19) → At 35 (c .fh19 .last .0)
+abbrev at35 : tie.After-fh19 → At 35
 at35 c = next A4 (at34 (c .before .before)) (lit< tt) (c .fh19 .ensures)
 
-abbrev at36 : (c : tie.After-fh20) → At 36 (c .fh20 .last .0)
+abbrev at36 : tie.After-fh20 → At 36
 at36 c = next A4 (at35 (c .before .before)) (lit< tt) (c .fh20 .ensures)
 
-abbrev at37 : (c : tie.After-fh21) → At 37 (c .fh21 .last .0)
+abbrev at37 : tie.After-fh21 → At 37
 at37 c = next A4 (at36 (c .before .before)) (lit< tt) (c .fh21 .ensures)
 
-abbrev at38 : (c : tie.After-fh22) → At 38 (c .fh22 .last .0)
+abbrev at38 : tie.After-fh22 → At 38
 at38 c = next A4 (at37 (c .before .before)) (lit< tt) (c .fh22 .ensures)
 
-abbrev at39 : (c : tie.After-fh23) → At 39 (c .fh23 .last .0)
+abbrev at39 : tie.After-fh23 → At 39
 at39 c = next A4 (at38 (c .before .before)) (lit< tt) (c .fh23 .ensures)
 
-abbrev at40 : (c : tie.After-fh24) → At 40 (c .fh24 .last .0)
+abbrev at40 : tie.After-fh24 → At 40
 at40 c = next A4 (at39 (c .before .before)) (lit< tt) (c .fh24 .ensures)
 
-abbrev at41 : (c : tie.After-fb17) → At 41 (c .fb17 .last .0)
+abbrev at41 : tie.After-fb17 → At 41
 at41 c = next A4 (at40 (c .before .before)) (lit< tt) (c .fb17 .ensures)
 
-abbrev at42 : (c : tie.After-fb18) → At 42 (c .fb18 .last .0)
+abbrev at42 : tie.After-fb18 → At 42
 at42 c = next A4 (at41 (c .before .before)) (lit< tt) (c .fb18 .ensures)
 
-abbrev at43 : (c : tie.After-fb19) → At 43 (c .fb19 .last .0)
+abbrev at43 : tie.After-fb19 → At 43
 at43 c = next A4 (at42 (c .before .before)) (lit< tt) (c .fb19 .ensures)
 
-abbrev at44 : (c : tie.After-fb20) → At 44 (c .fb20 .last .0)
+abbrev at44 : tie.After-fb20 → At 44
 at44 c = next A4 (at43 (c .before .before)) (lit< tt) (c .fb20 .ensures)
 
-abbrev at45 : (c : tie.After-fh25) → At 45 (c .fh25 .last .0)
+abbrev at45 : tie.After-fh25 → At 45
 at45 c = next A4 (at44 (c .before .before)) (lit< tt) (c .fh25 .ensures)
 
-abbrev at46 : (c : tie.After-fh26) → At 46 (c .fh26 .last .0)
+abbrev at46 : tie.After-fh26 → At 46
 at46 c = next A4 (at45 (c .before .before)) (lit< tt) (c .fh26 .ensures)
 
-abbrev at47 : (c : tie.After-fh27) → At 47 (c .fh27 .last .0)
+abbrev at47 : tie.After-fh27 → At 47
 at47 c = next A4 (at46 (c .before .before)) (lit< tt) (c .fh27 .ensures)
 
-abbrev at48 : (c : tie.After-fh28) → At 48 (c .fh28 .last .0)
+abbrev at48 : tie.After-fh28 → At 48
 at48 c = next A4 (at47 (c .before .before)) (lit< tt) (c .fh28 .ensures)
 
-abbrev at49 : (c : tie.After-fh29) → At 49 (c .fh29 .last .0)
+abbrev at49 : tie.After-fh29 → At 49
 at49 c = next A4 (at48 (c .before .before)) (lit< tt) (c .fh29 .ensures)
 
-abbrev at50 : (c : tie.After-fh30) → At 50 (c .fh30 .last .0)
+abbrev at50 : tie.After-fh30 → At 50
 at50 c = next A4 (at49 (c .before .before)) (lit< tt) (c .fh30 .ensures)
 
-abbrev at51 : (c : tie.After-fh31) → At 51 (c .fh31 .last .0)
+abbrev at51 : tie.After-fh31 → At 51
 at51 c = next A4 (at50 (c .before .before)) (lit< tt) (c .fh31 .ensures)
 
-abbrev at52 : (c : tie.After-fh32) → At 52 (c .fh32 .last .0)
+abbrev at52 : tie.After-fh32 → At 52
 at52 c = next A4 (at51 (c .before .before)) (lit< tt) (c .fh32 .ensures)
 
-abbrev at53 : (c : tie.After-fh33) → At 53 (c .fh33 .last .0)
+abbrev at53 : tie.After-fh33 → At 53
 at53 c = next A4 (at52 (c .before .before)) (lit< tt) (c .fh33 .ensures)
 
-abbrev at54 : (c : tie.After-fh34) → At 54 (c .fh34 .last .0)
+abbrev at54 : tie.After-fh34 → At 54
 at54 c = next A4 (at53 (c .before .before)) (lit< tt) (c .fh34 .ensures)
 
-abbrev at55 : (c : tie.After-fh35) → At 55 (c .fh35 .last .0)
+abbrev at55 : tie.After-fh35 → At 55
 at55 c = next A4 (at54 (c .before .before)) (lit< tt) (c .fh35 .ensures)
 
-abbrev at56 : (c : tie.After-fh36) → At 56 (c .fh36 .last .0)
+abbrev at56 : tie.After-fh36 → At 56
 at56 c = next A4 (at55 (c .before .before)) (lit< tt) (c .fh36 .ensures)
 
-abbrev at57 : (c : tie.After-fh37) → At 57 (c .fh37 .last .0)
+abbrev at57 : tie.After-fh37 → At 57
 at57 c = next A4 (at56 (c .before .before)) (lit< tt) (c .fh37 .ensures)
 
-abbrev at58 : (c : tie.After-fh38) → At 58 (c .fh38 .last .0)
+abbrev at58 : tie.After-fh38 → At 58
 at58 c = next A4 (at57 (c .before .before)) (lit< tt) (c .fh38 .ensures)
 
-abbrev at59 : (c : tie.After-fh39) → At 59 (c .fh39 .last .0)
+abbrev at59 : tie.After-fh39 → At 59
 at59 c = next A4 (at58 (c .before .before)) (lit< tt) (c .fh39 .ensures)
 
-abbrev at60 : (c : tie.After-fh40) → At 60 (c .fh40 .last .0)
+abbrev at60 : tie.After-fh40 → At 60
 at60 c = next A4 (at59 (c .before .before)) (lit< tt) (c .fh40 .ensures)
 
 returns : tie.Need-returns

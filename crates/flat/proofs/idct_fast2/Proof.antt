@@ -3,6 +3,7 @@ use mathlib.Core.Path.{_≡_, refl, sym, ap, _∙_, subst}
 use mathlib.Core.Bool.{true}
 use mathlib.Core.List.{List, [], _∷_}
 use Prim.Native.Nat.{ℕ, _^_}
+use borrow.Author.Needs.{needs}
 use lib.Dec.{lit≤, lit<}
 use lib.IntN.{ℤ, pos}
 use Rattle.whole.specs.Steps.{run, each, when, Ok}
@@ -11,7 +12,7 @@ use Rattle.primitives.specs.Brev.{Brev}
 use Rattle.steps.specs.Step.{Step, Bf, Move, step, Fine}
 use Rattle.dct.specs.Dct.{dct, dctRow, dctSteps, tail, tailAt, steps2, steps3, steps4, steps5, steps6, steps7}
 use Rattle.flat.proofs.Straight.{Done, begin, call, next, end, joined, run-joined, ok-joined, alone}
-use Rattle.flat.proofs.Table.{brevs, reverses}
+use Rattle.flat.proofs.Table.{brevs, brev-place, brev-move}
 use Rattle.flat.proofs.idct_fast2.Statement.{statement}
 use Rattle.flat.proofs.idct_fast2.Tie as tie
 
@@ -22,25 +23,29 @@ all : dctRow 2 ≡ joined parts
 unfolding joined dctRow dctSteps tail tailAt steps2 steps3 steps4 steps5 steps6 steps7 each when Brev
 all = refl
 
--- after k calls t is u
-abbrev At : ℕ → List ℤ → Type 0
-At k u = Done (run step) (Ok step (Fine (2 ^ 46))) parts k u
+-- after k calls
+abbrev At : ℕ → Type 0
+At k = Done (run step) (Ok step (Fine (2 ^ 46))) parts k
 
-abbrev at0 : (c : tie.Start) → At 0 (c .args .t .now)
+abbrev at0 : tie.Start → At 0
 at0 c = begin (ok-joined step parts (subst (λ (ss : List Step). Ok step (Fine (2 ^ 46)) ss (c .args .t .now)) all (c .pre)))
 
-abbrev at1 : (c : tie.After-permute) → At 1 (c .permute .last .0)
-at1 c = next [] (at0 (c .before .before .before)) (lit< tt) (alone step (c .permute .ensures))
+moved : (c : tie.After-reorder) → c .reorder .last .0 ≡ run step (Move 4 (Brev 2) ∷ []) (c .before .before .before .args .t .now)
+unfolding brevs
+moved c = alone step (c .reorder .ensures ∙ brev-move 2 (lit≤ tt) (lit< tt) (lit≤ tt) (c .before .before .before .args .t .now))
 
-abbrev at2 : (c : tie.After-fb) → At 2 (c .fb .last .0)
+abbrev at1 : tie.After-reorder → At 1
+at1 c = next [] (at0 (c .before .before .before)) (lit< tt) (moved c)
+
+abbrev at2 : tie.After-fb → At 2
 at2 c = next [] (at1 (c .before .before)) (lit< tt) (alone step (c .fb .ensures))
 
-abbrev at3 : (c : tie.After-dct-level2) → At 3 (c .dct-level2 .last .0)
+abbrev at3 : tie.After-dct-level2 → At 3
 at3 c = next [] (at2 (c .before .before)) (lit< tt) (c .dct-level2 .ensures)
 
-permute-requires : tie.Need-permute-requires
+reorder-requires : tie.Need-reorder-requires
 unfolding brevs
-permute-requires c κs = (lit≤ tt, lit≤ tt, refl, reverses 2 (lit≤ tt) (lit< tt) (lit≤ tt))
+reorder-requires c κs = (lit≤ tt, lit≤ tt, brev-place 2 (lit≤ tt) (lit< tt) (lit≤ tt))
 
 returns : tie.Need-returns
 unfolding dct
@@ -52,7 +57,8 @@ pub idct-fast2-spec : {M : Type 1} → statement M
 idct-fast2-spec =
     tie.close
     (tie.spec
-    permute-requires
+    (λ c. search needs)
+    reorder-requires
     (λ c κs. ok-here (call [] (at1 (c .before)) (lit< tt)))
     (λ c κs. call [] (at2 (c .before)) (lit< tt))
     returns)

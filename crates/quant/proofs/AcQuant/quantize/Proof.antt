@@ -1,5 +1,5 @@
 use mathlib.Core.Path.{_≡_, ap, _∙_}
-use Prim.Native.Nat.{ℕ, min, _+_, _-_, _*_, _/_, _≤_}
+use Prim.Native.Nat.{ℕ, min, _+_, _-_, _*_, _/_, _^_, _≤_}
 use native.Mathlib.Omega.{arith}
 use borrow.Author.Needs.{needs}
 use lib.IntN.{natAbs}
@@ -21,7 +21,7 @@ module _ (c : tie.After-widened) where
   wide : c .widened .result ≡ natAbs (c .before .before .args .coef) * dqDenom (c .before .before .args .size)
   wide = c .widened .ensures ∙ rw coef
 
-  wide-le : c .widened .result ≤ 4294967296
+  wide-le : c .widened .result ≤ 2 ^ 32
   wide-le = rw wide (wide-most (c .before .before .args .size) (natAbs (c .before .before .args .coef)) (c .before .before .pre .1))
 
   -- the quantizer
