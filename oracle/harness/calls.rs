@@ -27,7 +27,7 @@ const USAGE: &str = "calls answer            read calls, print each with its out
 calls check [FAULT]     read calls with outcomes, ask again, print the count of each kind (FAULT: a wrong answer on purpose)
 calls gen SEED COUNT    print the systematic calls and COUNT random ones, with their outcomes
 calls files SEED COUNT DIR   write the systematic VBK files and COUNT random ones, each with its expected output
-calls lists SEED DIR    write the fixed lists
+calls lists SEED        print the fixed list
 calls compare SEED COUNT DIR SIDE..   generated cases to each side; what is found goes to DIR
 calls list FILE DIR SIDE..            a list as it stands to each side
 a SIDE is --calls NAME WORD.. --end (a command that checks lines) or --blockrun NAME WORD.. --end";
@@ -144,7 +144,7 @@ fn main() {
             });
             println!("{k} files");
         }
-        Some("lists") => lists::write_all(number(&args, 1), std::path::Path::new(&args[2])),
+        Some("lists") => lists::write_all(number(&args, 1), &mut BufWriter::new(std::io::stdout())),
         Some("list") => std::process::exit(compare::run_list(&args[1], &args[2], &args[3..])),
         Some("compare") => std::process::exit(compare::run(number(&args, 1), number(&args, 2), &args[3], &args[4..])),
         _ => {

@@ -5,8 +5,9 @@ use crate::line::Call;
 use crate::rng::Rng;
 use crate::{files, rules};
 
-const LEAF: i64 = 1 << 46; // operands of B, H and SB
-const WIDE: i64 = 1 << 60; // numbers of S
+const ROUNDED: i64 = 1 << 62; // what Round2 takes
+const LEAF: i64 = 1 << 46; // operands of B, H, SB and the WHT
+const WIDE: i64 = 1 << 61; // numbers of S
 const ROW: i64 = 1 << 31; // inputs of one row
 const COEF: i64 = rules::COEF_LIMIT as i64;
 const LINE_FILE: usize = 9_000; // bytes of a file that goes into a line
@@ -169,10 +170,10 @@ fn angle(r: &mut Rng) -> i128 {
 }
 
 fn round2(r: &mut Rng) -> Call {
-    let k = r.range(1, 14);
+    let k = if r.once_in(2) { r.range(1, 14) } else { r.range(1, 30) };
     let x = match r.below(3) {
         0 => (r.range(-(1 << 20), 1 << 20) << k) + (1 << (k - 1)) + r.range(-1, 1),
-        1 => r.range(-(1 << 61), 1 << 61),
+        1 => number(r, ROUNDED),
         _ => r.range(-100_000, 100_000),
     };
     call(1, vec![x.into(), k.into()], vec![])
@@ -204,9 +205,9 @@ fn sh(r: &mut Rng) -> Call {
 }
 
 /// A row of 2^n numbers in a list of 32; what follows the row must stay.
-fn row(r: &mut Rng, n: u32) -> Vec<i64> {
+fn row(r: &mut Rng, n: u32, limit: i64) -> Vec<i64> {
     let n0 = side(n);
-    let b = bound(r, ROW);
+    let b = bound(r, limit);
     let mut v = vec![0i64; n0];
     match r.below(4) {
         0 => v[r.below(n0 as u64) as usize] = nonzero(r, b),
@@ -236,18 +237,18 @@ fn row(r: &mut Rng, n: u32) -> Vec<i64> {
 
 fn dct(r: &mut Rng) -> Call {
     let n = r.range(2, 5) as u32;
-    call(10, vec![n.into()], vec![row(r, n)])
+    call(10, vec![n.into()], vec![row(r, n, ROW)])
 }
 
 fn adst(r: &mut Rng) -> Call {
     let n = r.range(2, 4) as u32;
-    call(11, vec![n.into()], vec![row(r, n)])
+    call(11, vec![n.into()], vec![row(r, n, ROW)])
 }
 
 fn wht(r: &mut Rng) -> Call {
-    let mut v = row(r, 2);
+    let mut v = row(r, 2, LEAF);
     v.truncate(4);
-    call(12, vec![r.pick(&[0, 2])], vec![v])
+    call(12, vec![r.pick(&[0, 1, 2])], vec![v])
 }
 
 // ---- the two drivers ----
@@ -687,9 +688,9 @@ fn systematic_parts(r: &mut Rng, out: &mut dyn FnMut(Call)) {
             out(call(kind, vec![a.into()], vec![]));
         }
     }
-    for k in 1..=14i64 {
+    for k in 1..=30i64 {
         let half = 1i64 << (k - 1);
-        for x in [0, 1, -1, half - 1, half, half + 1, -half - 1, -half, -half + 1, 3 * half, -3 * half, 1 << 61, -(1 << 61)] {
+        for x in [0, 1, -1, half - 1, half, half + 1, -half - 1, -half, -half + 1, 3 * half, -3 * half, ROUNDED, -ROUNDED] {
             out(call(1, vec![x.into(), k.into()], vec![]));
         }
     }
@@ -711,13 +712,13 @@ fn systematic_parts(r: &mut Rng, out: &mut dyn FnMut(Call)) {
                 }
             }
             for _ in 0..40 {
-                out(call(kind, vec![n.into()], vec![row(r, n)]));
+                out(call(kind, vec![n.into()], vec![row(r, n, ROW)]));
             }
         }
     }
-    for shift in [0, 2] {
+    for shift in [0, 1, 2] {
         for k in 0..4 {
-            for v in [1, -1, 2, -2, 3, -3, 5, 100, COEF, -COEF, ROW, -ROW] {
+            for v in [1, -1, 2, -2, 3, -3, 5, 100, COEF, -COEF, LEAF, -LEAF] {
                 let mut t = vec![0; 4];
                 t[k] = v;
                 out(call(12, vec![shift], vec![t]));

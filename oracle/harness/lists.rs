@@ -1,17 +1,17 @@
-//! The fixed lists: some hundred calls of each kind, short enough to be read.
+//! The fixed list: some hundred calls of each kind, short enough to be read.
 
 use crate::line::{self, Call, Outcome};
 use crate::rng::Rng;
 use crate::{ask, cases};
 use std::collections::BTreeMap;
 use std::io::Write;
-use std::path::Path;
 
 /// What a call of the list stands for; the same number of each is kept.
 fn class(c: &Call, o: &Outcome) -> Vec<i128> {
     let answer = o.nums.first().copied().unwrap_or(0);
     let small = |v: i128| v.clamp(0, 9);
     match c.kind {
+        1 => vec![c.args[1]],
         5 | 7 => vec![c.args[2].rem_euclid(128) / 8, c.args[3]],
         10..=12 => vec![c.args[0]],
         20 | 21 if answer == 0 => vec![0, c.args[0], if c.args[2] == 1 { 9 } else { c.args[1] }],
@@ -41,7 +41,8 @@ fn class(c: &Call, o: &Outcome) -> Vec<i128> {
 fn room(c: &Call, o: &Outcome) -> (usize, usize) {
     let answer = o.nums.first().copied().unwrap_or(0);
     match c.kind {
-        1..=4 | 26 => (100, 120),
+        1 => (100, 4),
+        2..=4 | 26 => (100, 120),
         5 | 7 => (260, 4),
         6 | 8 => (260, 60),
         10 | 11 => (220, 50),
@@ -68,19 +69,7 @@ fn room(c: &Call, o: &Outcome) -> (usize, usize) {
     }
 }
 
-fn files() -> Vec<(&'static str, Vec<u32>)> {
-    vec![
-        ("parts", vec![1, 2, 3, 4, 5, 6, 7, 8]),
-        ("rows", vec![10, 11, 12]),
-        ("driver", vec![20]),
-        ("reference", vec![21]),
-        ("reconstruct", vec![22]),
-        ("coder", vec![23, 24, 25, 26]),
-        ("vbk", vec![30]),
-    ]
-}
-
-pub fn write_all(seed: u64, dir: &Path) {
+pub fn write_all(seed: u64, out: &mut dyn Write) {
     let mut kept: BTreeMap<(u32, Vec<i128>), Vec<Vec<u8>>> = BTreeMap::new();
     let mut seen: BTreeMap<(u32, Vec<i128>), u64> = BTreeMap::new();
     let mut worked: BTreeMap<u32, Vec<Vec<u8>>> = BTreeMap::new();
@@ -124,32 +113,20 @@ pub fn write_all(seed: u64, dir: &Path) {
             }
         }
     });
-    std::fs::create_dir_all(dir).expect("the folder");
-    for (name, kinds) in files() {
-        let mut out = std::io::BufWriter::new(std::fs::File::create(dir.join(format!("{name}.txt"))).expect("a list"));
-        writeln!(out, "# The Rust's answers, by oracle/make-lists {seed}. The form of a line: oracle/README.md.").unwrap();
-        for kind in kinds {
-            let shape = line::shape(kind).expect("a kind");
-            let lines: Vec<&Vec<u8>> = kept.iter().filter(|(k, _)| k.0 == kind).flat_map(|(_, l)| l).collect();
-            let lists = |l: &[&str]| l.iter().map(|n| format!(" [{n}]")).collect::<String>();
-            let plain = |l: &[&str]| l.iter().map(|n| format!(" {n}")).collect::<String>();
-            let after = shape.after.len();
-            writeln!(
-                out,
-                "# kind {kind} {}: {kind}{}{} ->{}{}",
-                shape.name,
-                plain(shape.args),
-                lists(shape.lists),
-                plain(shape.nums),
-                " [afterwards]".repeat(after)
-            )
+    writeln!(out, "# The Rust's answers, by oracle/make-lists {seed}. The form of a line: oracle/README.md.").unwrap();
+    for shape in line::SHAPES {
+        let kind = shape.kind;
+        let lines: Vec<&Vec<u8>> = kept.iter().filter(|(k, _)| k.0 == kind).flat_map(|(_, l)| l).collect();
+        let lists = |l: &[&str]| l.iter().map(|n| format!(" [{n}]")).collect::<String>();
+        let plain = |l: &[&str]| l.iter().map(|n| format!(" {n}")).collect::<String>();
+        let after = " [afterwards]".repeat(shape.after.len());
+        writeln!(out, "# kind {kind} {}: {kind}{}{} ->{}{after}", shape.name, plain(shape.args), lists(shape.lists), plain(shape.nums))
             .unwrap();
-            let first = worked.get(&kind).map(Vec::as_slice).unwrap_or(&[]);
-            for l in first.iter().chain(lines.iter().copied()) {
-                out.write_all(l).unwrap();
-                out.write_all(b"\n").unwrap();
-            }
-            println!("{name}: kind {kind:2} {:31} {} calls", shape.name, first.len() + lines.len());
+        let first = worked.get(&kind).map(Vec::as_slice).unwrap_or(&[]);
+        for l in first.iter().chain(lines.iter().copied()) {
+            out.write_all(l).unwrap();
+            out.write_all(b"\n").unwrap();
         }
+        eprintln!("kind {kind:2} {:31} {} calls", shape.name, first.len() + lines.len());
     }
 }

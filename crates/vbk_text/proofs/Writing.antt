@@ -6,8 +6,8 @@ use mathlib.Core.Logic.{⊎-elim}
 use native.Mathlib.Numerals.{add-one}
 use native.Mathlib.Nat as N
 use native.Mathlib.Omega.{arith}
-use lib.ListN.{length, set, length-append}
-use lib.Seq.{sets, length-sets}
+use lib.ListN.{length, set, drop, length-append}
+use lib.Seq.{sets, length-sets, sets-eq}
 use Rattle.whole.specs.Steps.{each}
 use Rattle.vbk_text.specs.Writing.{Room, Put}
 
@@ -99,3 +99,13 @@ module _ {first : List ℕ} {start n : ℕ} {f : ℕ → List ℕ} {i : ℕ} {ou
 -- row r of a plane of h rows is there
 pub row-fits : (r w h : ℕ) {n : ℕ} → r < h → h * w ≤ n → r * w + w ≤ n
 row-fits r w h l k = omega (arith, N.mul-le-mul-right w l, N.suc-mul r w)
+
+-- at the front of the buffer
+pub put-front : {out after t : List ℕ} {n : ℕ} → Room out 0 t → Put out 0 t n after → after ≡ t ++ drop (length t) out
+put-front {out} {after} {t} h p = p .after-is ∙ sets-eq t out 0 h ∙ rw (N.zero-add (length t))
+
+pub put-count : {out after t : List ℕ} {n : ℕ} → Put out 0 t n after → n ≡ length t
+put-count {out} {after} {t} p = p .next-is ∙ N.zero-add (length t)
+
+pub put-within : {out after t : List ℕ} {n : ℕ} → Room out 0 t → Put out 0 t n after → n ≤ length after
+put-within h p = omega (arith, put-count p, put-length p)

@@ -78,25 +78,25 @@ fn wide16(x: u16) -> u64
     x as u64
 }
 
-fn wide32(x: u32) -> u64
+fn wide8(x: u8) -> u64
     ensures { λ r. ⌜ r ≡ x ⌝ }
 {
     x as u64
 }
 
 // `B index answer`
-fn put_answer(out: &mut [u8], at: usize, answers: &[u32], index: usize) -> usize
+fn put_answer(out: &mut [u8], at: usize, answers: &[u8], index: usize) -> usize
     requires { ⌜ (index < length (now answers)) × Room (now out) at (answerLine (now answers) index) ⌝ }
     ensures { λ r. ⌜ Put (now (out .entry)) at (answerLine (now (answers .entry)) index) r (now (out .exit)) ⌝ }
 {
     let a = put_byte(out, at, b'B');
     let b = put_word(out, a, index as u64);
-    let c = put_word(out, b, wide32(answers[index]));
+    let c = put_word(out, b, wide8(answers[index]));
     put_byte(out, c, b'\n')
 }
 
 // All `B` lines.
-fn put_answers(out: &mut [u8], at: usize, answers: &[u32]) -> usize
+fn put_answers(out: &mut [u8], at: usize, answers: &[u8]) -> usize
     requires { ⌜ Room (now out) at (each (length (now answers)) (answerLine (now answers))) ⌝ }
     ensures { λ r. ⌜ Put (now (out .entry)) at (each (length (now (answers .entry))) (answerLine (now (answers .entry)))) r (now (out .exit)) ⌝ }
 {
@@ -163,7 +163,7 @@ pub fn write_run(
     depth: u64,
     width: usize,
     height: usize,
-    answers: &[u32],
+    answers: &[u8],
     plane: &[u16],
     touched: u64,
 ) -> usize

@@ -24,7 +24,7 @@ left2 c = let a = c .before .before .before .before .before .before .before .bef
 -- what is left after call 3
 left3 : (c : tie.After-put-word2) → let a = c .before .before .before .before .before .before .before .before .before .before .before .before .before .before .args in Todo (c .put-word2 .last .0) (c .put-word2 .result) (newline) (sets (a .out .now) (a .at) (answerLine (a .answers .now) (a .index))) (a .at + length (answerLine (a .answers .now) (a .index)))
 unfolding answerLine
-left3 c = let a = c .before .before .before .before .before .before .before .before .before .before .before .before .before .before .args in todo-next (word (getD (a .answers .now) (a .index) 0)) (newline) (left2 (c .before .before .before .before .before .before)) (put-as (ap word (c .before .wide32 .ensures)) (c .put-word2 .ensures))
+left3 c = let a = c .before .before .before .before .before .before .before .before .before .before .before .before .before .before .args in todo-next (word (getD (a .answers .now) (a .index) 0)) (newline) (left2 (c .before .before .before .before .before .before)) (put-as (ap word (c .before .wide8 .ensures)) (c .put-word2 .ensures))
 
 put-byte-requires : tie.Need-put-byte-requires
 unfolding answerLine
@@ -34,21 +34,18 @@ put-word-requires : tie.Need-put-word-requires
 unfolding answerLine
 put-word-requires c κs = let a = c .before .before .before .before .before .before .before .args in todo-room (word (a .index)) (word (getD (a .answers .now) (a .index) 0) ⨾ newline) (left1 (c .before .before .before))
 
-mul-wide32 : tie.Need-mul-wide32
-mul-wide32 c = search needs
+shared-slice-read-wide8 : tie.Need-shared-slice-read-wide8
+shared-slice-read-wide8 c = search needs
 
-shared-slice-read-wide32 : tie.Need-shared-slice-read-wide32
-shared-slice-read-wide32 c = search needs
-
-wide32-requires : tie.Need-wide32-requires
-wide32-requires c κs = search needs
+wide8-requires : tie.Need-wide8-requires
+wide8-requires c κs = search needs
 
 put-word-requires-2 : tie.Need-put-word-requires-2
 unfolding answerLine
 put-word-requires-2 c κs =
     let a = c .before .before .before .before .before .before .before .before .before .before .before .before .before .args in
     let d = c .before .before .before .before .before .put-word in
-    room-as (d .last .0) (d .result) (ap word (sym (c .wide32 .ensures))) (todo-room (word (getD (a .answers .now) (a .index) 0)) (newline) (left2 (c .before .before .before .before .before)))
+    room-as (d .last .0) (d .result) (ap word (sym (c .wide8 .ensures))) (todo-room (word (getD (a .answers .now) (a .index) 0)) (newline) (left2 (c .before .before .before .before .before)))
 
 put-byte-requires-2 : tie.Need-put-byte-requires-2
 unfolding answerLine
@@ -67,9 +64,8 @@ put-answer-spec =
     (tie.spec
     put-byte-requires
     put-word-requires
-    mul-wide32
-    shared-slice-read-wide32
-    wide32-requires
+    shared-slice-read-wide8
+    wide8-requires
     put-word-requires-2
     put-byte-requires-2
     same-length

@@ -1,0 +1,2 @@
+mod Negative
+mod Narrow

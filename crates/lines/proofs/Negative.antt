@@ -1,0 +1,26 @@
+-- −n − 1 in two steps, for n below 2^63: both fit, down to the least number.
+use mathlib.Core.Path.{_≡_}
+use Prim.Native.Nat.{ℕ, _<_, _^_}
+use native.Mathlib.Omega.{arith}
+use lib.IntN.{ℤ, pos, negℤ, _-ℤ_}
+use mir.Syntax.{w64}
+use mir.Val.{SFits, toZ, ofZ}
+use mir.ValLaws.{toZ-ofZ, toZ-pos}
+use Rattle.whole.specs.Ring.{at, neg, _⊖_}
+use Rattle.whole.proofs.Parts.{zero-minus}
+use Rattle.whole.proofs.Ring.{sfits-by}
+
+module _ (n : ℕ) (h : n < 2 ^ 63) where
+  turned : pos 0 -ℤ toZ w64 n ≡ negℤ (pos n)
+  turned = rw (toZ-pos w64 n h) (zero-minus (pos n))
+
+  turned-fits : SFits w64 (negℤ (pos n))
+  turned-fits = sfits-by w64 (neg (at (pos n))) (omega arith) (omega arith)
+
+  pub neg-fits : SFits w64 (pos 0 -ℤ toZ w64 n)
+  neg-fits = rw turned turned-fits
+
+  pub less-fits : SFits w64 (toZ w64 (ofZ w64 (pos 0 -ℤ toZ w64 n)) -ℤ pos 1)
+  less-fits =
+      rw (turned, toZ-ofZ w64 (negℤ (pos n)) turned-fits)
+      (sfits-by w64 (neg (at (pos n)) ⊖ at (pos 1)) (omega arith) (omega arith))

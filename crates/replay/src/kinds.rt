@@ -1,0 +1,26 @@
+// The kinds of oracle/README.md; a line of another kind is skipped. `numbers` is room for the longest list.
+use crate::coder;
+use crate::parts;
+use crate::rows;
+use crate::verdict::Verdict;
+
+pub fn verdict(kind: usize, line: &[u8], at: usize, numbers: &mut [i64]) -> Verdict {
+    match kind {
+        1 => parts::round2(line, at),
+        2 => parts::brev(line, at),
+        3 => parts::cos64(line, at),
+        4 => parts::sin64(line, at),
+        5 => parts::butterfly(line, at),
+        6 => parts::hadamard(line, at),
+        7 => parts::sb(line, at),
+        8 => parts::sh(line, at),
+        10 => rows::inverse_dct(line, at),
+        11 => rows::inverse_adst(line, at),
+        12 => rows::inverse_wht(line, at),
+        23 => coder::forward_wht_2d(line, at, numbers),
+        24 => coder::quantize_block_tx(line, at, numbers),
+        25 => coder::quantize_block(line, at, numbers),
+        26 => coder::max_codeable_coef(line, at),
+        _ => Verdict::Skipped,
+    }
+}
