@@ -1,5 +1,6 @@
 // The kinds of oracle/README.md; a line of another kind is skipped. `numbers` is room for the longest list.
 use crate::coder;
+use crate::drivers;
 use crate::parts;
 use crate::rows;
 use crate::verdict::Verdict;
@@ -17,6 +18,8 @@ pub fn verdict(kind: usize, line: &[u8], at: usize, numbers: &mut [i64]) -> Verd
         10 => rows::inverse_dct(line, at),
         11 => rows::inverse_adst(line, at),
         12 => rows::inverse_wht(line, at),
+        20 => drivers::inverse_transform_2d(line, at, numbers),
+        21 => drivers::inverse_transform_2d_reference(line, at, numbers),
         23 => coder::forward_wht_2d(line, at, numbers),
         24 => coder::quantize_block_tx(line, at, numbers),
         25 => coder::quantize_block(line, at, numbers),

@@ -4,6 +4,7 @@ ghost use mathlib.Core.Path.{_≡_};
 ghost use lib.ListN.{length};
 
 mod coder;
+mod drivers;
 mod feed;
 mod kinds;
 mod parts;

@@ -1,0 +1,33 @@
+// Kinds 20 and 21: the two drivers.
+use crate::verdict::Verdict;
+use crate::verdict::answered;
+
+pub fn inverse_transform_2d(line: &[u8], at: usize, numbers: &mut [i64]) -> Verdict {
+    let n = lines::read_unsigned32(line, at);
+    let kind = lines::read_unsigned8(line, n.next);
+    let lossless = lines::read_flag(line, kind.next);
+    let l = lines::read_list(line, lossless.next, numbers);
+    let count = l.count;
+    let answer = idct::inverse_transform_2d(
+        &mut numbers[0..count],
+        n.value,
+        kind.value,
+        lossless.value,
+    );
+    answered(line, l.next, answer, lossless.next, &numbers[0..count])
+}
+
+pub fn inverse_transform_2d_reference(line: &[u8], at: usize, numbers: &mut [i64]) -> Verdict {
+    let n = lines::read_unsigned32(line, at);
+    let kind = lines::read_unsigned8(line, n.next);
+    let lossless = lines::read_flag(line, kind.next);
+    let l = lines::read_list(line, lossless.next, numbers);
+    let count = l.count;
+    let answer = idct::inverse_transform_2d_reference(
+        &mut numbers[0..count],
+        n.value,
+        kind.value,
+        lossless.value,
+    );
+    answered(line, l.next, answer, lossless.next, &numbers[0..count])
+}
