@@ -1,16 +1,15 @@
 -- Laws of a record: its checks one by one, the record that ends the reading and the one after which it goes on; its numbers read one after another.
-use mathlib.Core.Path.{_≡_, refl, sym, ap, _∙_}
-use mathlib.Core.Bool.{Bool, true, false, not}
+use mathlib.Core.Path.{_≡_, refl}
+use mathlib.Core.Bool.{false}
 use mathlib.Core.List.{List}
-use Prim.Native.Nat.{ℕ, zero, suc, _+_, _*_, _≤_, _<_}
+use Prim.Native.Nat.{ℕ, zero, suc, _+_, _≤_, _<_}
 use native.Mathlib.Omega.{arith}
 use borrow.Author.Tests.{lt-ltb, le-ltb, ne-eqb}
-use lib.Dec.{ltb, eqb}
-use lib.ListN.{length, getD}
+use lib.ListN.{length}
 use Rattle.answers.specs.Answers.{number}
 use Rattle.answers.specs.declared.Answer.{Answer}
 use Rattle.vbk_read.specs.Bytes.{le1, le2, Took}
-use Rattle.vbk_read.specs.Records.{sizeAt, losslessAt, headAt, noHead, tokenCount, nextAt, endAnswer, losslessAnswer, checkAnswer, lastRecord, Recorded}
+use Rattle.vbk_read.specs.Records.{sizeAt, losslessAt, headAt, tokenCount, nextAt, endAnswer, losslessAnswer, checkAnswer, lastRecord, Recorded}
 use Rattle.vbk_read.specs.declared.Head.{Head}
 use Rattle.vbk_read.specs.declared.Record.{Record}
 

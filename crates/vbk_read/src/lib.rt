@@ -1,6 +1,6 @@
 // Reading a VBK file: the cursor, the header, the records, and the reader that keeps the file and the place together.
 ghost use mathlib.Core.Path.{_≡_};
-ghost use Prim.Native.Nat.{ℕ, _+_, _*_, _≤_, _<_};
+ghost use Prim.Native.Nat.{_+_, _*_, _≤_, _<_};
 ghost use lib.ListN.{length};
 ghost use Rattle.whole.specs.Lists.{fill};
 ghost use Rattle.answers.specs.Answers.{number};

@@ -1,5 +1,5 @@
 -- How long the text can be: every number below 100,000 takes at most five digits, so that a run of at most 4,096 samples and 874 records fits TEXT_LIMIT.
-use mathlib.Core.Path.{_≡_, refl, sym, ap, _∙_}
+use mathlib.Core.Path.{_≡_, refl, sym}
 use mathlib.Core.Bool.{Bool, true, false}
 use mathlib.Core.List.{List, [], _∷_, _++_}
 use Prim.Native.Nat.{ℕ, zero, suc, _+_, _*_, _/_, _%_, _≤_, _<_}
@@ -10,7 +10,7 @@ use lib.Dec.{ltb}
 use lib.ListN.{length, getD, length-append}
 use Rattle.whole.specs.Steps.{each}
 use Rattle.vbk_text.specs.Decimal.{decimal}
-use Rattle.vbk_text.specs.Text.{Outcome, refused, ran, word, numberLine, headerLine, answerLine, samplesFrom, rowLine, text, TEXT_LIMIT}
+use Rattle.vbk_text.specs.Text.{refused, ran, word, numberLine, headerLine, answerLine, samplesFrom, rowLine, text, TEXT_LIMIT}
 use Rattle.vbk_text.proofs.Decimal.{decimal-one, decimal-more}
 use Rattle.vbk_text.proofs.Writing.{row-fits}
 

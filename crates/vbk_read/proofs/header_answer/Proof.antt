@@ -1,13 +1,13 @@
-use mathlib.Core.Path.{_≡_, refl, sym, ap, _∙_}
-use mathlib.Core.Bool.{Bool, true, false, not}
-use Prim.Native.Nat.{ℕ, _+_, _*_, _≤_}
+use mathlib.Core.Path.{_≡_, sym, ap, _∙_}
+use mathlib.Core.Bool.{false, not}
+use Prim.Native.Nat.{_*_, _≤_}
 use native.Mathlib.Omega.{arith}
 use borrow.Author.Needs.{needs}
 use borrow.Author.Tests.{lt-ltb, le-ltb, eq-eqb, ne-eqb}
 use lib.Dec.{ltb, eqb}
 use lib.ListN.{length}
 use Rattle.answers.specs.Bad.{badDepth}
-use Rattle.vbk_read.specs.Header.{marked, versionOf, depthOf, areaOf, badArea, firstRecord, fieldsOf, headerAnswer}
+use Rattle.vbk_read.specs.Header.{marked, versionOf, depthOf, areaOf, badArea, fieldsOf, headerAnswer}
 use Rattle.vbk_read.specs.declared.Fields.{Fields}
 use Rattle.vbk_read.proofs.Headers.{area-ok}
 use Rattle.vbk_read.proofs.header_answer.Statement.{statement}

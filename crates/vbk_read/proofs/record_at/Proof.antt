@@ -1,9 +1,7 @@
-use mathlib.Core.Path.{_≡_, refl, sym, ap, _∙_}
-use Prim.Native.Nat.{ℕ, _+_, _*_, _≤_, _<_}
+use mathlib.Core.Path.{_≡_, refl, ap, _∙_}
 use native.Mathlib.Omega.{arith}
 use borrow.Author.Needs.{needs}
-use lib.ListN.{length}
-use Rattle.vbk_read.specs.Records.{sizeAt, headAt, tokenCount, losslessAnswer, nextAt}
+use Rattle.vbk_read.specs.Records.{sizeAt, tokenCount, losslessAnswer, nextAt}
 use Rattle.vbk_read.specs.declared.Head.{Head}
 use Rattle.vbk_read.proofs.Records.{count-most, cut-head, size-above, cut-tokens, goes-on, last, more}
 use Rattle.vbk_read.proofs.record_at.Statement.{statement}

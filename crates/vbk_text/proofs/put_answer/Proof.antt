@@ -1,11 +1,10 @@
-use mathlib.Core.Path.{_≡_, sym, ap}
+use mathlib.Core.Path.{sym, ap}
 use mathlib.Core.List.{[], _∷_}
-use Prim.Native.Nat.{_+_, _*_, _≤_, _<_}
-use native.Mathlib.Omega.{arith}
+use Prim.Native.Nat.{_+_}
 use borrow.Author.Needs.{needs}
 use lib.ListN.{length, getD}
 use lib.Seq.{sets}
-use Rattle.whole.specs.Steps.{each, _⨾_}
+use Rattle.whole.specs.Steps.{_⨾_}
 use Rattle.vbk_text.specs.Text.{word, newline, answerLine}
 use Rattle.vbk_text.proofs.Writing.{put-as, room-as, Todo, todo-all, todo-room, todo-next, todo-last}
 use Rattle.vbk_text.proofs.put_answer.Statement.{statement}
@@ -34,12 +33,6 @@ put-word-requires : tie.Need-put-word-requires
 unfolding answerLine
 put-word-requires c κs = let a = c .before .before .before .before .before .before .before .args in todo-room (word (a .index)) (word (getD (a .answers .now) (a .index) 0) ⨾ newline) (left1 (c .before .before .before))
 
-shared-slice-read-wide8 : tie.Need-shared-slice-read-wide8
-shared-slice-read-wide8 c = search needs
-
-wide8-requires : tie.Need-wide8-requires
-wide8-requires c κs = search needs
-
 put-word-requires-2 : tie.Need-put-word-requires-2
 unfolding answerLine
 put-word-requires-2 c κs =
@@ -51,9 +44,6 @@ put-byte-requires-2 : tie.Need-put-byte-requires-2
 unfolding answerLine
 put-byte-requires-2 c κs = let a = c .before .before .before .before .before .before .before .before .before .before .before .before .before .before .before .before .before .args in left3 (c .before .before .before) .room
 
-same-length : tie.Need-same-length
-same-length c = search needs
-
 returns : tie.Need-returns
 unfolding answerLine
 returns c = let a = c .before .before .before .before .before .before .before .before .before .before .before .before .before .before .before .before .before .before .before .before .args in todo-last (left3 (c .before .before .before .before .before .before)) (c .before .before .put-byte2 .ensures)
@@ -64,9 +54,9 @@ put-answer-spec =
     (tie.spec
     put-byte-requires
     put-word-requires
-    shared-slice-read-wide8
-    wide8-requires
+    (λ c. search needs)
+    (λ c κs. search needs)
     put-word-requires-2
     put-byte-requires-2
-    same-length
+    (λ c. search needs)
     returns)

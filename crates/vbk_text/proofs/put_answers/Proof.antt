@@ -1,8 +1,6 @@
-use mathlib.Core.Path.{_≡_, sym, ap, _∙_}
-use Prim.Native.Nat.{ℕ, _+_, _*_, _-_, _≤_, _<_}
-use native.Mathlib.Omega.{arith}
+use Prim.Native.Nat.{_-_}
 use borrow.Author.Needs.{needs}
-use lib.ListN.{length, getD}
+use lib.ListN.{length}
 use Rattle.vbk_text.specs.Text.{answerLine}
 use Rattle.vbk_text.proofs.Writing.{Pieces, pieces-none, pieces-room, pieces-more, pieces-done, pieces-length}
 use Rattle.vbk_text.proofs.put_answers.Statement.{statement}
@@ -20,12 +18,6 @@ loop-holds c =
 
 put-answer-requires : tie.Need-put-answer-requires Inv-loop μ-loop
 put-answer-requires c κs = (c .before .loop-test .taken, pieces-room (c .before .before .loop .inv) (c .before .loop-test .taken))
-
-add-i : tie.Need-add-i Inv-loop μ-loop
-add-i c = search needs
-
-loop-less : tie.Need-loop-less Inv-loop μ-loop
-loop-less c = search needs
 
 loop-again : tie.Need-loop-again Inv-loop μ-loop
 loop-again c =
@@ -46,8 +38,8 @@ put-answers-spec =
     μ-loop
     loop-holds
     put-answer-requires
-    add-i
-    loop-less
+    (λ c. search needs)
+    (λ c. search needs)
     loop-again
     same-length
     returns)

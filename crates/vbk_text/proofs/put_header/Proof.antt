@@ -1,11 +1,9 @@
-use mathlib.Core.Path.{_≡_}
 use mathlib.Core.List.{[], _∷_}
-use Prim.Native.Nat.{_+_, _*_, _≤_, _<_}
-use native.Mathlib.Omega.{arith}
+use Prim.Native.Nat.{_+_}
 use borrow.Author.Needs.{needs}
-use lib.ListN.{length, getD}
+use lib.ListN.{length}
 use lib.Seq.{sets}
-use Rattle.whole.specs.Steps.{each, _⨾_}
+use Rattle.whole.specs.Steps.{_⨾_}
 use Rattle.vbk_text.specs.Text.{word, newline, headerLine}
 use Rattle.vbk_text.proofs.Writing.{Todo, todo-all, todo-room, todo-next, todo-last}
 use Rattle.vbk_text.proofs.put_header.Statement.{statement}
@@ -78,9 +76,6 @@ put-byte-requires-4 : tie.Need-put-byte-requires-4
 unfolding headerLine
 put-byte-requires-4 c κs = let a = c .before .before .before .before .before .before .before .before .before .before .before .before .before .before .before .before .before .before .before .before .before .before .before .before .before .before .before .before .before .before .args in left7 (c .before .before .before) .room
 
-same-length : tie.Need-same-length
-same-length c = search needs
-
 returns : tie.Need-returns
 unfolding headerLine
 returns c = let a = c .before .before .before .before .before .before .before .before .before .before .before .before .before .before .before .before .before .before .before .before .before .before .before .before .before .before .before .before .before .before .before .before .before .args in todo-last (left7 (c .before .before .before .before .before .before)) (c .before .before .put-byte4 .ensures)
@@ -97,5 +92,5 @@ put-header-spec =
     put-word-requires-3
     put-word-requires-4
     put-byte-requires-4
-    same-length
+    (λ c. search needs)
     returns)

@@ -1,11 +1,9 @@
-use mathlib.Core.Path.{_≡_}
 use mathlib.Core.List.{[], _∷_}
-use Prim.Native.Nat.{_+_, _*_, _≤_, _<_}
-use native.Mathlib.Omega.{arith}
+use Prim.Native.Nat.{_+_}
 use borrow.Author.Needs.{needs}
-use lib.ListN.{length, getD}
+use lib.ListN.{length}
 use lib.Seq.{sets}
-use Rattle.whole.specs.Steps.{each, _⨾_}
+use Rattle.whole.specs.Steps.{_⨾_}
 use Rattle.vbk_text.specs.Text.{word, newline, numberLine}
 use Rattle.vbk_text.proofs.Writing.{Todo, todo-all, todo-room, todo-next, todo-last}
 use Rattle.vbk_text.proofs.put_number.Statement.{statement}
@@ -33,9 +31,6 @@ put-byte-requires-2 : tie.Need-put-byte-requires-2
 unfolding numberLine
 put-byte-requires-2 c κs = let a = c .before .before .before .before .before .before .before .before .before .before .args in left2 (c .before .before .before) .room
 
-same-length : tie.Need-same-length
-same-length c = search needs
-
 returns : tie.Need-returns
 unfolding numberLine
 returns c = let a = c .before .before .before .before .before .before .before .before .before .before .before .before .before .args in todo-last (left2 (c .before .before .before .before .before .before)) (c .before .before .put-byte2 .ensures)
@@ -47,5 +42,5 @@ put-number-spec =
     put-byte-requires
     put-word-requires
     put-byte-requires-2
-    same-length
+    (λ c. search needs)
     returns)

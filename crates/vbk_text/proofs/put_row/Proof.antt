@@ -1,11 +1,10 @@
-use mathlib.Core.Path.{_≡_}
 use mathlib.Core.List.{[], _∷_}
-use Prim.Native.Nat.{_+_, _*_, _≤_, _<_}
+use Prim.Native.Nat.{_+_, _*_}
 use native.Mathlib.Omega.{arith}
 use borrow.Author.Needs.{needs}
-use lib.ListN.{length, getD}
+use lib.ListN.{length}
 use lib.Seq.{sets}
-use Rattle.whole.specs.Steps.{each, _⨾_}
+use Rattle.whole.specs.Steps.{_⨾_}
 use Rattle.vbk_text.specs.Text.{samplesFrom, newline, rowLine}
 use Rattle.vbk_text.proofs.Writing.{Todo, todo-all, todo-room, todo-next, todo-last}
 use Rattle.vbk_text.proofs.put_row.Statement.{statement}
@@ -25,9 +24,6 @@ put-byte-requires : tie.Need-put-byte-requires
 unfolding rowLine
 put-byte-requires c κs = let a = c .before .before .before .args in todo-room (83 ∷ []) (samplesFrom (a .plane .now) (a .r * a .width) (a .width) ⨾ newline) (todo-all (a .out .now) (a .at) (rowLine (a .plane .now) (a .width) (a .r)) (c .before .before .before .pre .1))
 
-mul-put-samples : tie.Need-mul-put-samples
-mul-put-samples c = search needs
-
 put-samples-requires : tie.Need-put-samples-requires
 unfolding rowLine
 put-samples-requires c κs = let a = c .before .before .before .before .before .before .before .args in (omega arith, todo-room (samplesFrom (a .plane .now) (a .r * a .width) (a .width)) (newline) (left1 (c .before .before .before)))
@@ -35,9 +31,6 @@ put-samples-requires c κs = let a = c .before .before .before .before .before .
 put-byte-requires-2 : tie.Need-put-byte-requires-2
 unfolding rowLine
 put-byte-requires-2 c κs = let a = c .before .before .before .before .before .before .before .before .before .before .before .args in left2 (c .before .before .before) .room
-
-same-length : tie.Need-same-length
-same-length c = search needs
 
 returns : tie.Need-returns
 unfolding rowLine
@@ -48,8 +41,8 @@ put-row-spec =
     tie.close
     (tie.spec
     put-byte-requires
-    mul-put-samples
+    (λ c. search needs)
     put-samples-requires
     put-byte-requires-2
-    same-length
+    (λ c. search needs)
     returns)

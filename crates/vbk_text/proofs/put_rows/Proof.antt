@@ -1,8 +1,5 @@
-use mathlib.Core.Path.{_≡_, sym, ap, _∙_}
-use Prim.Native.Nat.{ℕ, _+_, _*_, _-_, _≤_, _<_}
-use native.Mathlib.Omega.{arith}
+use Prim.Native.Nat.{_-_}
 use borrow.Author.Needs.{needs}
-use lib.ListN.{length, getD}
 use Rattle.vbk_text.specs.Text.{rowLine}
 use Rattle.vbk_text.proofs.Writing.{row-fits, Pieces, pieces-none, pieces-room, pieces-more, pieces-done, pieces-length}
 use Rattle.vbk_text.proofs.put_rows.Statement.{statement}
@@ -23,12 +20,6 @@ put-row-requires c κs =
     let s = c .before .before .before .before .before in
     (row-fits (c .before .before .loop .r) (s .args .width) (s .args .height) (c .before .loop-test .taken) (s .pre .0), pieces-room (c .before .before .loop .inv) (c .before .loop-test .taken))
 
-add-r : tie.Need-add-r Inv-loop μ-loop
-add-r c = search needs
-
-loop-less : tie.Need-loop-less Inv-loop μ-loop
-loop-less c = search needs
-
 loop-again : tie.Need-loop-again Inv-loop μ-loop
 loop-again c =
     let t = c .before .before .before .before in
@@ -48,8 +39,8 @@ put-rows-spec =
     μ-loop
     loop-holds
     put-row-requires
-    add-r
-    loop-less
+    (λ c. search needs)
+    (λ c. search needs)
     loop-again
     same-length
     returns)

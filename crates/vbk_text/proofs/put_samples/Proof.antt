@@ -1,8 +1,7 @@
-use mathlib.Core.Path.{_≡_, sym, ap, _∙_}
-use Prim.Native.Nat.{ℕ, _+_, _*_, _-_, _≤_, _<_}
-use native.Mathlib.Omega.{arith}
+use mathlib.Core.Path.{sym, ap}
+use Prim.Native.Nat.{_+_, _-_}
 use borrow.Author.Needs.{needs}
-use lib.ListN.{length, getD}
+use lib.ListN.{getD}
 use Rattle.vbk_text.specs.Text.{word, samplesFrom}
 use Rattle.vbk_text.proofs.Writing.{put-as, room-as, Pieces, pieces-none, pieces-room, pieces-more, pieces-done, pieces-length}
 use Rattle.vbk_text.proofs.put_samples.Statement.{statement}
@@ -20,28 +19,10 @@ loop-holds c =
     let a = c .before .before .args in
     pieces-none (a .out .now) (a .at) (a .count) (λ k. word (getD (a .plane .now) (a .from + k) 0)) (c .before .before .pre .1)
 
-add-k : tie.Need-add-k Inv-loop μ-loop
-add-k c = search needs
-
-mul-wide16 : tie.Need-mul-wide16 Inv-loop μ-loop
-mul-wide16 c = search needs
-
-shared-slice-read-wide16 : tie.Need-shared-slice-read-wide16 Inv-loop μ-loop
-shared-slice-read-wide16 c = search needs
-
-wide16-requires : tie.Need-wide16-requires Inv-loop μ-loop
-wide16-requires c κs = search needs
-
 put-word-requires : tie.Need-put-word-requires Inv-loop μ-loop
 put-word-requires c κs =
     let t = c .before .before .before in
     room-as (t .before .loop .out) (t .before .loop .place) (ap word (sym (c .wide16 .ensures))) (pieces-room (t .before .loop .inv) (t .loop-test .taken))
-
-add-c : tie.Need-add-c Inv-loop μ-loop
-add-c c = search needs
-
-loop-less : tie.Need-loop-less Inv-loop μ-loop
-loop-less c = search needs
 
 loop-again : tie.Need-loop-again Inv-loop μ-loop
 loop-again c =
@@ -63,13 +44,13 @@ put-samples-spec =
     Inv-loop
     μ-loop
     loop-holds
-    add-k
-    mul-wide16
-    shared-slice-read-wide16
-    wide16-requires
+    (λ c. search needs)
+    (λ c. search needs)
+    (λ c. search needs)
+    (λ c κs. search needs)
     put-word-requires
-    add-c
-    loop-less
+    (λ c. search needs)
+    (λ c. search needs)
     loop-again
     same-length
     returns)

@@ -1,11 +1,8 @@
-use mathlib.Core.Path.{_≡_}
 use mathlib.Core.List.{[], _∷_}
-use Prim.Native.Nat.{_+_, _*_, _≤_, _<_}
-use native.Mathlib.Omega.{arith}
+use Prim.Native.Nat.{_+_}
 use borrow.Author.Needs.{needs}
-use lib.ListN.{length, getD}
+use lib.ListN.{length}
 use lib.Seq.{sets}
-use Rattle.whole.specs.Steps.{each, _⨾_}
 use Rattle.vbk_text.specs.Text.{word}
 use Rattle.vbk_text.specs.Decimal.{decimal}
 use Rattle.vbk_text.proofs.Writing.{Todo, todo-all, todo-room, todo-next, todo-last}
@@ -25,9 +22,6 @@ put-decimal-requires : tie.Need-put-decimal-requires
 unfolding word
 put-decimal-requires c κs = let a = c .before .before .before .before .before .before .args in left1 (c .before .before .before) .room
 
-same-length : tie.Need-same-length
-same-length c = search needs
-
 returns : tie.Need-returns
 unfolding word
 returns c = let a = c .before .before .before .before .before .before .before .before .before .args in todo-last (left1 (c .before .before .before .before .before .before)) (c .before .before .put-decimal .ensures)
@@ -38,5 +32,5 @@ put-word-spec =
     (tie.spec
     put-byte-requires
     put-decimal-requires
-    same-length
+    (λ c. search needs)
     returns)

@@ -7,12 +7,9 @@ put-number-requires : tie.Need-put-number-requires
 unfolding text
 put-number-requires c κs = c .before .before .pre
 
-same-length : tie.Need-same-length
-same-length c = search needs
-
 returns : tie.Need-returns
 unfolding text
 returns c = c .before .before .put-number .ensures
 
 pub write-refusal-spec : {M : Type 1} → statement M
-write-refusal-spec = tie.close (tie.spec put-number-requires same-length returns)
+write-refusal-spec = tie.close (tie.spec put-number-requires (λ c. search needs) returns)

@@ -1,9 +1,6 @@
-use mathlib.Core.Path.{_≡_}
-use mathlib.Core.List.{[], _∷_}
-use Prim.Native.Nat.{_+_, _*_, _≤_, _<_}
-use native.Mathlib.Omega.{arith}
+use Prim.Native.Nat.{_+_}
 use borrow.Author.Needs.{needs}
-use lib.ListN.{length, getD}
+use lib.ListN.{length}
 use lib.Seq.{sets}
 use Rattle.whole.specs.Steps.{each, _⨾_}
 use Rattle.vbk_text.specs.Text.{headerLine, answerLine, rowLine, touchedLine, ran, text}
@@ -42,9 +39,6 @@ put-number-requires : tie.Need-put-number-requires
 unfolding text
 put-number-requires c κs = let a = c .before .before .before .before .before .before .before .before .before .before .before .before .before .before .before .before .args in left3 (c .before .before .before) .room
 
-same-length : tie.Need-same-length
-same-length c = search needs
-
 returns : tie.Need-returns
 unfolding text
 returns c = let a = c .before .before .before .before .before .before .before .before .before .before .before .before .before .before .before .before .before .before .before .args in todo-last (left3 (c .before .before .before .before .before .before)) (c .before .before .put-number .ensures)
@@ -57,5 +51,5 @@ write-run-spec =
     put-answers-requires
     put-rows-requires
     put-number-requires
-    same-length
+    (λ c. search needs)
     returns)

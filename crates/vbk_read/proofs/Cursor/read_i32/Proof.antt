@@ -1,4 +1,4 @@
-use mathlib.Core.Path.{_≡_, ap, _∙_}
+use mathlib.Core.Path.{ap, _∙_}
 use borrow.Author.Needs.{needs}
 use Rattle.vbk_read.specs.Bytes.{signed32}
 use Rattle.vbk_read.proofs.Words.{back32}

@@ -20,21 +20,6 @@ abbrev μ-loop : tie.MeasureT-loop
 loop-holds : tie.Need-loop-holds Inv-loop μ-loop
 loop-holds c = (search needs, search needs, refl, fill-none _ _)
 
-read-u16-requires : tie.Need-read-u16-requires Inv-loop μ-loop
-read-u16-requires c κs = search needs
-
-mul-plane : tie.Need-mul-plane Inv-loop μ-loop
-mul-plane c = search needs
-
-slice-write-plane : tie.Need-slice-write-plane Inv-loop μ-loop
-slice-write-plane c = search needs
-
-add-k : tie.Need-add-k Inv-loop μ-loop
-add-k c = search needs
-
-loop-less : tie.Need-loop-less Inv-loop μ-loop
-loop-less c = search needs
-
 loop-again : tie.Need-loop-again Inv-loop μ-loop
 unfolding sampleAt
 loop-again c =
@@ -42,9 +27,6 @@ loop-again c =
     let l = c .before .before .before .loop in
     let e : c .before .read-u16 .result .value ≡ le2 (a .s .now) (a .self .at + 2 * l .k) = c .before .read-u16 .ensures .value-is ∙ ap (le2 (a .s .now)) (l .inv .1) in
     (search needs, omega (arith, l .inv .1, c .before .read-u16 .ensures .next-is), search needs, fill-more _ _ (l .k) (l .inv .3) (ap (set (l .plane) (l .k)) e))
-
-same-length : tie.Need-same-length Inv-loop μ-loop
-same-length c = search needs
 
 returns : tie.Need-returns Inv-loop μ-loop
 returns c =
@@ -59,11 +41,11 @@ read-samples-spec =
     Inv-loop
     μ-loop
     loop-holds
-    read-u16-requires
-    mul-plane
-    slice-write-plane
-    add-k
-    loop-less
+    (λ c κs. search needs)
+    (λ c. search needs)
+    (λ c. search needs)
+    (λ c. search needs)
+    (λ c. search needs)
     loop-again
-    same-length
+    (λ c. search needs)
     returns)

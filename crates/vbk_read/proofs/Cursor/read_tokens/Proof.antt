@@ -24,24 +24,6 @@ abbrev μ-loop : tie.MeasureT-loop
 loop-holds : tie.Need-loop-holds Inv-loop μ-loop
 loop-holds c = (search needs, search needs, refl, fill-none _ _)
 
-read-i32-requires : tie.Need-read-i32-requires Inv-loop μ-loop
-read-i32-requires c κs = search needs
-
-long-requires : tie.Need-long-requires Inv-loop μ-loop
-long-requires c κs = search needs
-
-mul-t10 : tie.Need-mul-t10 Inv-loop μ-loop
-mul-t10 c = search needs
-
-slice-set-from-tokens : tie.Need-slice-set-from-tokens Inv-loop μ-loop
-slice-set-from-tokens c = search needs
-
-add-k : tie.Need-add-k Inv-loop μ-loop
-add-k c = search needs
-
-loop-less : tie.Need-loop-less Inv-loop μ-loop
-loop-less c = search needs
-
 loop-again : tie.Need-loop-again Inv-loop μ-loop
 unfolding tokenAt
 loop-again c =
@@ -52,9 +34,6 @@ loop-again c =
     toZ-ofZ w64 (c .before .long .result) (record { sfits = c .before .long .ok }) ∙ c .before .long .ensures ∙ back32 (got .result .value) (c .before .before .struct-told .given .0 .1) ∙ got .ensures .value-is ∙ ap (λ (p : ℕ). signed32 (le4 (a .s .now) p)) (l .inv .1)
     in
     (search needs, omega (arith, l .inv .1, got .ensures .next-is), search needs, fill-more _ _ (l .k) (l .inv .3) (ap (set (l .tokens) (l .k)) e))
-
-same-length : tie.Need-same-length Inv-loop μ-loop
-same-length c = search needs
 
 returns : tie.Need-returns Inv-loop μ-loop
 returns c =
@@ -69,12 +48,12 @@ read-tokens-spec =
     Inv-loop
     μ-loop
     loop-holds
-    read-i32-requires
-    long-requires
-    mul-t10
-    slice-set-from-tokens
-    add-k
-    loop-less
+    (λ c κs. search needs)
+    (λ c κs. search needs)
+    (λ c. search needs)
+    (λ c. search needs)
+    (λ c. search needs)
+    (λ c. search needs)
     loop-again
-    same-length
+    (λ c. search needs)
     returns)
