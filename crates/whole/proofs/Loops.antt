@@ -26,9 +26,3 @@ pub times-keeps : {A : Type 0} (P : A → Type 0) (f : ℕ → A → A) (n : ℕ
 unfolding times
 times-keeps P f zero x step p = p
 times-keeps P f (suc n) x step p = step n (omega arith) (times n f x) (times-keeps P f n x (λ k h. step k (omega arith)) p)
-
--- steps that agree on what they meet give the same
-pub times-same : {A : Type 0} (f g : ℕ → A → A) (n : ℕ) (x : A) → ((k : ℕ) → k < n → (y : A) → f k y ≡ g k y) → times n f x ≡ times n g x
-unfolding times
-times-same f g zero x e = refl
-times-same f g (suc n) x e = ap (f n) (times-same f g n x (λ k h. e k (omega arith))) ∙ e n (omega arith) (times n g x)

@@ -4,9 +4,9 @@ use mathlib.Core.Bool.{Bool, true, false, not, cond}
 use Prim.Native.Nat.{ℕ, suc, zero, pred, min, _+_, _-_, _*_, _/_, _%_, _≤_, _<_}
 use native.Mathlib.Nat as NatL
 use native.Mathlib.Omega.{arith}
-use lib.Dec.{T, ltb, ltb→lt, nltb→le, leb→le, le→leb, lt→ltb}
+use lib.Dec.{T, ltb, ltb→lt, nltb→le, leb→le}
 use lib.IntN.{ℤ, pos, negsuc, negℤ, natAbs, subℕ, _+ℤ_, _-ℤ_, _*ℤ_, +ℤ-idl}
-use lib.Signed.{mag, leZ, ltZ, _≤ℤ_, _<ℤ_, shrZ, quotZ, remZ, nonNeg}
+use lib.Signed.{mag, ltZ, shrZ, quotZ, remZ, nonNeg}
 use Rattle.whole.specs.Parts.{P, N}
 
 -- one of the two is 0
@@ -80,63 +80,20 @@ eq-parts (pos a) (negsuc b) h = absurd (omega arith)
 eq-parts (negsuc a) (pos b) h = absurd (omega arith)
 eq-parts (negsuc a) (negsuc b) h = ap negsuc (omega arith)
 
-le′ : (a b : ℤ) → P a + N b ≤ P b + N a → T (leZ a b)
-le′ (pos a) (pos b) h = le→leb a b (omega arith)
-le′ (pos a) (negsuc b) h = absurd (omega arith)
-le′ (negsuc a) (pos b) h = tt
-le′ (negsuc a) (negsuc b) h = le→leb b a (omega arith)
-
-el′ : (a b : ℤ) → T (leZ a b) → P a + N b ≤ P b + N a
-el′ (pos a) (pos b) t = omega (arith, leb→le a b t)
-el′ (pos a) (negsuc b) t = absurd t
-el′ (negsuc a) (pos b) t = omega arith
-el′ (negsuc a) (negsuc b) t = omega (arith, leb→le b a t)
-
-lt′ : (a b : ℤ) → P a + N b < P b + N a → T (ltZ a b)
-lt′ (pos a) (pos b) h = lt→ltb a b (omega arith)
-lt′ (pos a) (negsuc b) h = absurd (omega arith)
-lt′ (negsuc a) (pos b) h = tt
-lt′ (negsuc a) (negsuc b) h = lt→ltb b a (omega arith)
-
 tl′ : (a b : ℤ) → T (ltZ a b) → P a + N b < P b + N a
 tl′ (pos a) (pos b) t = omega (arith, ltb→lt a b t)
 tl′ (pos a) (negsuc b) t = absurd t
 tl′ (negsuc a) (pos b) t = omega arith
 tl′ (negsuc a) (negsuc b) t = omega (arith, ltb→lt b a t)
 
-pub le-parts : (a b : ℤ) → P a + N b ≤ P b + N a → a ≤ℤ b
-le-parts a b h = record { le = le′ a b h }
-
-pub parts-le : (a b : ℤ) → a ≤ℤ b → P a + N b ≤ P b + N a
-parts-le a b h = el′ a b (h .le)
-
-pub lt-parts : (a b : ℤ) → P a + N b < P b + N a → a <ℤ b
-lt-parts a b h = record { lt = lt′ a b h }
-
-pub parts-lt : (a b : ℤ) → a <ℤ b → P a + N b < P b + N a
-parts-lt a b h = tl′ a b (h .lt)
-
--- what a test says, as a condition leaves it: `leZ a b ≡ true`
-pub leZ-true : (a b : ℤ) → leZ a b ≡ true → P a + N b ≤ P b + N a
-leZ-true a b e = el′ a b (subst T (sym e) tt)
-
 pub ltZ-true : (a b : ℤ) → ltZ a b ≡ true → P a + N b < P b + N a
 ltZ-true a b e = tl′ a b (subst T (sym e) tt)
-
-nle′ : (a b : ℤ) → T (not (leZ a b)) → P b + N a < P a + N b
-nle′ (pos a) (pos b) t = omega (arith, lib.Dec.nleb→lt a b t)
-nle′ (pos a) (negsuc b) t = omega arith
-nle′ (negsuc a) (pos b) t = absurd t
-nle′ (negsuc a) (negsuc b) t = omega (arith, lib.Dec.nleb→lt b a t)
 
 nlt′ : (a b : ℤ) → T (not (ltZ a b)) → P b + N a ≤ P a + N b
 nlt′ (pos a) (pos b) t = omega (arith, nltb→le a b t)
 nlt′ (pos a) (negsuc b) t = omega arith
 nlt′ (negsuc a) (pos b) t = absurd t
 nlt′ (negsuc a) (negsuc b) t = omega (arith, nltb→le b a t)
-
-pub leZ-false : (a b : ℤ) → leZ a b ≡ false → P b + N a < P a + N b
-leZ-false a b e = nle′ a b (subst (λ (t : Bool). T (not t)) (sym e) tt)
 
 pub ltZ-false : (a b : ℤ) → ltZ a b ≡ false → P b + N a ≤ P a + N b
 ltZ-false a b e = nlt′ a b (subst (λ (t : Bool). T (not t)) (sym e) tt)

@@ -1,16 +1,14 @@
--- Ring identities, orders and ranges over ℤ, by `omega` on formal differences. A goal is stated by its two expressions, and `omega arith` multiplies out what is left (at most 64 products).
+-- Ring identities and widths over ℤ, by `omega` on formal differences. A goal is stated by its two expressions, and `omega arith` multiplies out what is left (at most 64 products).
 use mathlib.Core.Path.{_≡_, ap}
 use Prim.Native.Nat.{ℕ, _+_, _*_, _^_, _≤_, _<_}
 use native.Mathlib.Omega.{arith}
 use lib.IntN.{ℤ, negℤ}
-use lib.Signed.{_≤ℤ_, _<ℤ_}
 use mir.Syntax.{Width}
 use mir.Val.{SFits, hbits}
 use Rattle.whole.specs.Parts.{P, N}
 use Rattle.whole.specs.Ring.{E, at, _⊕_, _⊖_, _⊗_, neg, ev, pp, pn}
-use Rattle.whole.specs.Within.{Within}
-use Rattle.whole.proofs.Parts.{sum-parts, neg-P, neg-N, mul-P, mul-N, eq-parts, le-parts, parts-le, lt-parts, parts-lt}
-use Rattle.whole.proofs.Within.{within-parts, sfits-parts}
+use Rattle.whole.proofs.Parts.{sum-parts, neg-P, neg-N, mul-P, mul-N, eq-parts}
+use Rattle.whole.proofs.Within.{sfits-parts}
 
 -- an expression's value is the difference
 prod : (Pa Na Pb Nb pa na pb nb : ℕ) → Pa + na ≡ Na + pa → Pb + nb ≡ Nb + pb
@@ -28,21 +26,6 @@ sound (neg e) = omega (arith, neg-P (ev e), neg-N (ev e), sound e)
 
 pub ring : (e f : E) → pp e + pn f ≡ pp f + pn e → ev e ≡ ev f
 ring e f h = eq-parts (ev e) (ev f) (omega (arith, sound e, sound f))
-
-pub le-by : (e f : E) → pp e + pn f ≤ pp f + pn e → ev e ≤ℤ ev f
-le-by e f h = le-parts (ev e) (ev f) (omega (arith, sound e, sound f))
-
-pub by-le : (e f : E) → ev e ≤ℤ ev f → pp e + pn f ≤ pp f + pn e
-by-le e f h = omega (arith, sound e, sound f, parts-le (ev e) (ev f) h)
-
-pub lt-by : (e f : E) → pp e + pn f < pp f + pn e → ev e <ℤ ev f
-lt-by e f h = lt-parts (ev e) (ev f) (omega (arith, sound e, sound f))
-
-pub by-lt : (e f : E) → ev e <ℤ ev f → pp e + pn f < pp f + pn e
-by-lt e f h = omega (arith, sound e, sound f, parts-lt (ev e) (ev f) h)
-
-pub within-by : (m : ℕ) (e : E) → pp e ≤ pn e + m → pn e ≤ pp e + m → Within m (ev e)
-within-by m e h k = within-parts m (ev e) (omega (arith, sound e)) (omega (arith, sound e))
 
 pub sfits-by : (w : Width) (e : E) → pp e < pn e + 2 ^ hbits w → pn e ≤ pp e + 2 ^ hbits w → SFits w (ev e)
 sfits-by w e h k = sfits-parts w (ev e) (omega (arith, sound e)) (omega (arith, sound e))

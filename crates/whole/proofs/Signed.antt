@@ -21,13 +21,6 @@ use Rattle.whole.proofs.Within.{within-abs, within-le, within-add, with
 pub is-bd : {m : ℕ} {x z : ℤ} → Is m x z → Within m x
 is-bd {m} i = subst (λ (y : ℤ). Within m y) (sym (i .eq)) (i .bd)
 
-pub is-le : {m n : ℕ} {x z : ℤ} → m ≤ n → Is m x z → Is n x z
-is-le h i = record { eq = i .eq; bd = within-le h (i .bd) }
-
--- the same term, known to be another number
-pub is-by : {m : ℕ} {x y z : ℤ} → y ≡ z → Is m x y → Is m x z
-is-by {m} e i = record { eq = i .eq ∙ e; bd = subst (λ (u : ℤ). Within m u) e (i .bd) }
-
 -- a literal
 pub is-lit : {m : ℕ} {z : ℤ} → Within m z → Is m z z
 is-lit b = record { eq = refl; bd = b }

@@ -47,12 +47,9 @@ within-sub h k = within-add h (within-neg k)
 within-prod : (x y m n : ℕ) → x ≤ m → y ≤ n → x * y ≤ m * n
 within-prod x y m n h k = NatL.mul-le-mul h k
 
-abs-mul′ : (a b : ℤ) → natAbs (a *ℤ b) ≡ natAbs a * natAbs b
-abs-mul′ a b =
-    omega (arith, abs-parts (a *ℤ b), mul-P a b, mul-N a b, ap₂ (λ (x y : ℕ). x * y) (abs-parts a) (abs-parts b))
-
 pub abs-mul : (a b : ℤ) → natAbs (a *ℤ b) ≡ natAbs a * natAbs b
-abs-mul = abs-mul′
+abs-mul a b =
+    omega (arith, abs-parts (a *ℤ b), mul-P a b, mul-N a b, ap₂ (λ (x y : ℕ). x * y) (abs-parts a) (abs-parts b))
 
 pub within-mul : {m n : ℕ} {a b : ℤ} → Within m a → Within n b → Within (m * n) (a *ℤ b)
 within-mul {m} {n} {a} {b} h k =
@@ -96,19 +93,6 @@ within-lit m z t = within-abs (leb→le (natAbs z) m t)
 -- ---- every element of a list within a bound
 pub within-zero : {m : ℕ} → Within m (pos 0)
 within-zero = record { hi = zero-le; lo = zero-le }
-
-all-set′ : {m : ℕ} (l : List ℤ) (i : ℕ) (v : ℤ) → ((k : ℕ) → Within m (getD l k (pos 0))) → Within m v → (k : ℕ) → Within m (getD (set l i v) k (pos 0))
-all-set′ [] i v h b k = within-zero
-all-set′ (z ∷ zs) zero v h b zero = b
-all-set′ (z ∷ zs) zero v h b (suc k) = h (suc k)
-all-set′ (z ∷ zs) (suc i) v h b zero = h zero
-all-set′ (z ∷ zs) (suc i) v h b (suc k) = all-set′ zs i v (λ j. h (suc j)) b k
-
-pub all-set : {m : ℕ} {l : List ℤ} (i : ℕ) {v : ℤ} → AllWithin m l → Within m v → AllWithin m (set l i v)
-all-set {m} {l} i {v} h b = record { each = all-set′ l i v (h .each) b }
-
-pub all-le : {m n : ℕ} {l : List ℤ} → m ≤ n → AllWithin m l → AllWithin n l
-all-le h a = record { each = λ i. within-le h (a .each i) }
 
 pub within-cond : {m : ℕ} (c : Bool) {x y : ℤ} → Within m x → Within m y → Within m (cond c x y)
 within-cond true h k = h
