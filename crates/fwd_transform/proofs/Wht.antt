@@ -114,7 +114,7 @@ unfolding dequant
 times-four t = eq-parts (quotZ (t *ℤ pos 4) (pos 1)) (pos 4 *ℤ t)
     (omega (arith, quot-P (t *ℤ pos 4) 1, quot-N (t *ℤ pos 4) 1, mul-P t (pos 4), mul-N t (pos 4), mul-P (pos 4) t, mul-N (pos 4) t))
 
-by-four : (dc : DcQuant) (ac : AcQuant) → dc .0 ≡ pos 4 → ac .0 ≡ pos 4 → (k : ℕ) → quantizerAt dc ac k ≡ pos 4
+pub by-four : (dc : DcQuant) (ac : AcQuant) → dc .0 ≡ pos 4 → ac .0 ≡ pos 4 → (k : ℕ) → quantizerAt dc ac k ≡ pos 4
 unfolding quantizerAt
 by-four dc ac d a k = go (eqb k 0) refl
   where

@@ -6,9 +6,10 @@ use Prim.Native.Nat.{ℕ, min, _+_, _-_, _*_, _/_, _%_, _<_, _≤_}
 use native.Mathlib.Decide.{decLt, ℕ-discrete}
 use native.Mathlib.Nat as NatL
 use native.Mathlib.Omega.{arith}
+use lib.Arith.{digits-div, digits-mod}
 use lib.IntN.{ℤ, pos, _+ℤ_}
 use lib.ListN.{length, getD}
-use Rattle.whole.proofs.Lists.{tabulate-is, tabulate-same}
+use Rattle.whole.proofs.Lists.{length-tabulate, getD-tabulate, tabulate-is, tabulate-same}
 use Rattle.plane.specs.declared.Plane.{Plane}
 use Rattle.plane.specs.Place.{placeOf, rowOf, columnOf, areaOf, cut, SamplesOf}
 use Rattle.plane.specs.Plane.{clip, inside, rowAfter, blockAfter, planeAfter}
@@ -103,6 +104,25 @@ module _ (top : ℕ) (r : ℕ → ℕ → ℤ) (x y : ℕ) (samples : List ℕ) 
             ∙ row-out top (r i) (placeOf p (y + i) x) cur cols (placeOf p row column)
             (inside-high (placeOf p (y + i) x) cols (placeOf p row column) (omega (arith, NatL.add-mul (y + i) 1 (p .width))))
             ∙ had row column l ∙ other-row i cols row column (placeOf p row column) ne
+
+-- the samples afterwards: how many, and the one at place k
+module _ (p : Plane) (top x y n0 : ℕ) (r : ℕ → ℕ → ℤ) (samples : List ℕ) where
+  pub after-length : length (planeAfter p top x y n0 r samples) ≡ length samples
+  unfolding planeAfter
+  after-length = length-tabulate _ (length samples)
+
+  pub after-at : (k : ℕ) → k < length samples
+      → getD (planeAfter p top x y n0 r samples) k 0
+      ≡ blockAfter top r x y (cut (p .height) y n0) (cut (p .width) x n0) samples (rowOf p k) (columnOf p k) k
+  unfolding planeAfter
+  after-at k h = getD-tabulate _ (length samples) k 0 h
+
+-- the row and the column of a place that was made of them
+pub row-of : (p : Plane) (row : ℕ) {column : ℕ} → column < p .width → rowOf p (placeOf p row column) ≡ row
+row-of p row h = digits-div row h
+
+pub column-of : (p : Plane) (row : ℕ) {column : ℕ} → column < p .width → columnOf p (placeOf p row column) ≡ column
+column-of p row h = digits-mod row h
 
 -- residuals that agree in the rows and columns
 block-same : (top : ℕ) (r q : ℕ → ℕ → ℤ) (x y : ℕ) (samples : List ℕ) (rows cols row column k : ℕ) → ((i j : ℕ) → i < rows → j < cols → r i j ≡ q i j)

@@ -59,7 +59,7 @@ any-or p q zero = refl
 any-or p q (suc n) = rw (any-or p q n) (swap (p n) (q n) (anyBelow p n) (anyBelow q n))
 
 -- a coefficient's magnitude
-dequant-abs : (size : ℕ) (q t : ℤ) → badQuantizer q ≡ false → natAbs (dequant size q t) ≡ natAbs t * natAbs q / dqDenom size
+pub dequant-abs : (size : ℕ) (q t : ℤ) → badQuantizer q ≡ false → natAbs (dequant size q t) ≡ natAbs t * natAbs q / dqDenom size
 dequant-abs size q t h =
     rw (quantizer q h .is) (ap natAbs (dequant-sign size (natAbs q) t) ∙ abs-with-sign t (natAbs t * natAbs q / dqDenom size))
 

@@ -134,7 +134,7 @@ module _ (size : ℕ) (dc : DcQuant) (ac : AcQuant) (kind : ℕ) (lossless : Boo
       same-block (size + 2) kind lossless (inFront (area size) size dc ac tokens) (dequantAll size dc ac tokens) block-room (rw all-length (NatL.le-refl (area size))) block-at i j hi hj
 
 -- ---- place 0 alone
-none-live : (p : ℕ → Bool) (n : ℕ) → ((k : ℕ) → k < n → p k ≡ false) → anyBelow p n ≡ false
+pub none-live : (p : ℕ → Bool) (n : ℕ) → ((k : ℕ) → k < n → p k ≡ false) → anyBelow p n ≡ false
 unfolding anyBelow
 none-live p zero e = refl
 none-live p (suc n) e = rw (e n (omega arith)) (none-live p n (λ k l. e k (omega arith)))
