@@ -1,0 +1,32 @@
+-- Where a plane's samples stand in the list of them: row by row.
+use mathlib.Core.Path.{_≡_}
+use mathlib.Core.List.{List}
+use Prim.Native.Nat.{ℕ, min, _+_, _-_, _*_, _/_, _%_, _≤_}
+use lib.ListN.{length}
+use Rattle.answers.specs.Limits.{SIDE_LIMIT}
+use Rattle.plane.specs.declared.Plane.{Plane}
+
+-- the place of the sample of a row and column
+abbrev pub placeOf : Plane → ℕ → ℕ → ℕ
+placeOf p row column = row * p .width + column
+
+-- the row and the column of a place
+abbrev pub rowOf : Plane → ℕ → ℕ
+rowOf p k = k / p .width
+
+abbrev pub columnOf : Plane → ℕ → ℕ
+columnOf p k = k % p .width
+
+-- how many samples a plane has
+abbrev pub areaOf : Plane → ℕ
+areaOf p = p .width * p .height
+
+-- these are the samples of such a plane
+pub record SamplesOf (p : Plane) (samples : List ℕ) : Type 0 where
+  pub wide : p .width ≤ SIDE_LIMIT
+  pub high : p .height ≤ SIDE_LIMIT
+  pub all : length samples ≡ areaOf p
+
+-- of n rows or columns from `start` on, how many lie in a plane that has `count` of them
+abbrev pub cut : ℕ → ℕ → ℕ → ℕ
+cut count start n = min n (count - start)

@@ -1,0 +1,57 @@
+-- `reconstruct::add_residual` meets its contract.
+use mathlib.Core.Path.{_≡_, refl, sym, ap, _∙_}
+use Prim.Native.Nat.{ℕ, _+_, _≤_, _<_}
+use native.Mathlib.Omega.{arith}
+use lib.IntN.{pos}
+use lib.ListN.{length, getD}
+use mir.Syntax.{w64}
+use mir.ValLaws.{toZ-ofZ}
+use borrow.Author.Needs.{needs}
+use Rattle.reconstruct.specs.Reconstruct.{area, Accepted}
+use Rattle.reconstruct.proofs.Sizes.{dc-fine}
+use Rattle.reconstruct.proofs.Residual.{size-most, some-token, flat-added, first-within}
+use Rattle.reconstruct.proofs.add_residual.Statement.{statement}
+use Rattle.reconstruct.proofs.add_residual.Tie as tie
+
+-- there is a first token
+some : (s : tie.Start) → 0 < length (s .args .tokens .now)
+some s = rw (s .pre .1 .all) (some-token (s .args .size))
+
+reconstruct-flat-requires : tie.Need-reconstruct-flat-requires
+reconstruct-flat-requires c κs =
+    let s = c .before .before .before .before .before .before in
+    let a = s .args in
+    let t = s .pre .1 in
+    rw (toZ-ofZ w64 (getD (a .tokens .now) 0 (pos 0)) (record { sfits = c .reconstruct-flat-arg2 .given })) (
+      s .pre .0,
+      size-most (a .size) (a .dc-quant) (a .ac-quant) (a .kind) (a .lossless) (a .tokens .now) t,
+      dc-fine (a .dc-quant) (a .ac-quant) (t .quantizers),
+      t .codeables 0 (some s),
+      first-within (a .size) (a .dc-quant) (a .ac-quant) (a .kind) (a .lossless) (a .tokens .now) t,
+    )
+
+returns-2 : tie.Need-returns-2
+returns-2 c =
+    let s = c .before .before .before .before .before .before .before .before .before in
+    let a = s .args in
+    let r = c .before .before .before in
+    let e = toZ-ofZ w64 (getD (a .tokens .now) 0 (pos 0)) (record { sfits = r .reconstruct-flat-arg2 .given }) in
+    rw e at (c .before .before .reconstruct-flat .ensures)
+    ∙ flat-added (a .plane) (a .top) (a .x) (a .y) (a .size) (a .dc-quant) (a .ac-quant) (a .kind) (a .lossless) (a .tokens .now) (a .samples .now) (s .pre .0) (s .pre .1)
+    (r .before .before .before .before .if1 .left) (sym (r .before .before .before .only-first .ensures) ∙ r .before .before .if2 .taken)
+
+pub add-residual-spec : {M : Type 1} → statement M
+add-residual-spec =
+    tie.close
+    (tie.spec
+    (λ c κs. let s = c .before .before .before in (s .pre .0, rw (c .before .if1 .taken) at (s .pre .1)))
+    (λ c. search needs)
+    (λ c. rw (c .before .before .before .before .if1 .taken) (c .before .before .reconstruct-4 .ensures))
+    (λ c κs. some (c .before .before))
+    (λ c. some (c .before .before .before .before .before))
+    reconstruct-flat-requires
+    (λ c. search needs)
+    returns-2
+    (λ c κs. search needs)
+    (λ c. search needs)
+    (λ c. search needs))

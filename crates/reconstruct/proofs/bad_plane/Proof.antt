@@ -1,0 +1,31 @@
+-- `reconstruct::bad_plane` meets its contract.
+use mathlib.Core.Path.{_≡_}
+use Prim.Native.Nat.{_*_, _≤_}
+use native.Mathlib.Nat.{mul-le-mul}
+use native.Mathlib.Omega.{arith}
+use borrow.Author.Needs.{needs}
+use borrow.Author.Tests.{lt-ltb, le-ltb}
+use Rattle.answers.specs.Limits.{SIDE_LIMIT}
+use Rattle.reconstruct.specs.Reconstruct.{badPlane}
+use Rattle.reconstruct.proofs.bad_plane.Statement.{statement}
+use Rattle.reconstruct.proofs.bad_plane.Tie as tie
+
+returns : tie.Need-returns
+unfolding badPlane
+returns c = rw (lt-ltb _ _ (c .if1 .taken))
+
+returns-2 : tie.Need-returns-2
+unfolding badPlane
+returns-2 c = rw (le-ltb _ _ (c .before .if1 .left), lt-ltb _ _ (c .if2 .taken))
+
+mul-result : tie.Need-mul-result
+mul-result c =
+    let p = c .before .before .args .plane in
+    let m : p .width * p .height ≤ SIDE_LIMIT * SIDE_LIMIT = mul-le-mul (c .before .if1 .left) (c .if2 .left) in omega arith
+
+returns-3 : tie.Need-returns-3
+unfolding badPlane
+returns-3 c = rw (le-ltb _ _ (c .before .if1 .left), le-ltb _ _ (c .if2 .left))
+
+pub bad-plane-spec : {M : Type 1} → statement M
+bad-plane-spec = tie.close (tie.spec returns returns-2 mul-result returns-3)

@@ -1,0 +1,111 @@
+-- `reconstruct::check` meets its contract.
+use mathlib.Core.Path.{_≡_, sym, ap, _∙_}
+use mathlib.Core.Bool.{true, false, not}
+use Prim.Native.Nat.{_*_, _≤_}
+use native.Mathlib.Nat.{mul-le-mul}
+use native.Mathlib.Omega.{arith}
+use borrow.Author.Needs.{needs}
+use borrow.Author.Tests.{eq-eqb, ne-eqb, ltb-false}
+use lib.Dec.{eqb}
+use Rattle.answers.specs.Bad.{badDepth, badSize, badLossless, badKind}
+use Rattle.reconstruct.specs.Reconstruct.{side, area, badQuantizers, badPlane, shapeOf}
+use Rattle.reconstruct.proofs.Sizes.{side-most}
+use Rattle.reconstruct.proofs.check.Statement.{statement}
+use Rattle.reconstruct.proofs.check.Tie as tie
+
+-- what each passed test says
+no1 : (c : tie.Else1) → badDepth (c .before .before .args .depth) ≡ false
+no1 c = sym (c .before .bad-depth .ensures) ∙ c .if1 .left
+
+no2 : (c : tie.Else2) → badSize (c .before .before .before .before .args .size) ≡ false
+no2 c = sym (c .before .bad-size .ensures) ∙ c .if2 .left
+
+no3 : (c : tie.Else3) → let a = c .before .before .before .before .before .before .args in badLossless (a .lossless) (a .size) ≡ false
+no3 c = sym (c .before .bad-lossless .ensures) ∙ c .if3 .left
+
+no4 : (c : tie.Else4) → let a = c .before .before .before .before .before .before .before .before .args in badKind (a .lossless) (a .size) (a .kind) ≡ false
+no4 c = sym (c .before .bad-kind .ensures) ∙ c .if4 .left
+
+no5 : (c : tie.Else5) → let a = c .before .before .before .before .before .before .before .before .before .before .args in badQuantizers (a .dc-quant) (a .ac-quant) ≡ false
+no5 c = sym (c .before .bad-quantizers .ensures) ∙ c .if5 .left
+
+square : (c : tie.After-side) → let a = c .before .before .before .before .before .before .before .before .before .before .before .args in c .side .result * c .side .result ≡ area (a .size)
+square c = rw (c .side .ensures)
+
+no6 : (c : tie.Else6) → let a = c .before .before .before .before .before .before .before .before .before .before .before .before .args in not (eqb (a .tokens) (area (a .size))) ≡ false
+no6 c = ap not (eq-eqb _ _ (c .if6 .left ∙ square (c .before)))
+
+no7 : (c : tie.Else7) → let a = c .before .before .before .before .before .before .before .before .before .before .before .before .before .before .args in badPlane (a .samples) (a .plane) ≡ false
+no7 c = sym (c .before .bad-plane .ensures) ∙ c .if7 .left
+
+returns : tie.Need-returns
+unfolding shapeOf
+returns c = rw (sym (c .before .bad-depth .ensures) ∙ c .if1 .taken)
+
+returns-2 : tie.Need-returns-2
+unfolding shapeOf
+returns-2 c = rw (no1 (c .before .before), sym (c .before .bad-size .ensures) ∙ c .if2 .taken)
+
+returns-3 : tie.Need-returns-3
+unfolding shapeOf
+returns-3 c =
+    let e2 = c .before .before in rw (no1 (e2 .before .before), no2 e2, sym (c .before .bad-lossless .ensures) ∙ c .if3 .taken)
+
+returns-4 : tie.Need-returns-4
+unfolding shapeOf
+returns-4 c =
+    let e3 = c .before .before in let e2 = e3 .before .before in
+    rw (no1 (e2 .before .before), no2 e2, no3 e3, sym (c .before .bad-kind .ensures) ∙ c .if4 .taken)
+
+returns-5 : tie.Need-returns-5
+unfolding shapeOf
+returns-5 c =
+    let e4 = c .before .before in let e3 = e4 .before .before in let e2 = e3 .before .before in
+    rw (no1 (e2 .before .before), no2 e2, no3 e3, no4 e4, sym (c .before .bad-quantizers .ensures) ∙ c .if5 .taken)
+
+side-requires : tie.Need-side-requires
+side-requires c κs = ltb-false 3 _ (no2 (c .before .before .before .before .before .before))
+
+mul-if6 : tie.Need-mul-if6
+mul-if6 c =
+    let h : c .side .result ≤ 32 = rw (c .side .ensures) (side-most _ (ltb-false 3 _ (no2 (c .before .before .before .before .before .before .before)))) in
+    let m : c .side .result * c .side .result ≤ 32 * 32 = mul-le-mul h h in omega arith
+
+returns-6 : tie.Need-returns-6
+unfolding shapeOf
+returns-6 c =
+    let e5 = c .before .before in let e4 = e5 .before .before in let e3 = e4 .before .before in let e2 = e3 .before .before in
+    rw (no1 (e2 .before .before), no2 e2, no3 e3, no4 e4, no5 e5, ap not (ne-eqb _ _ (rw (square (c .before)) at (c .if6 .taken))))
+
+returns-7 : tie.Need-returns-7
+unfolding shapeOf
+returns-7 c =
+    let e6 = c .before .before in let e5 = e6 .before .before in let e4 = e5 .before .before in let e3 = e4 .before .before in let e2 = e3 .before .before in
+    rw (no1 (e2 .before .before), no2 e2, no3 e3, no4 e4, no5 e5, no6 e6, sym (c .before .bad-plane .ensures) ∙ c .if7 .taken)
+
+returns-8 : tie.Need-returns-8
+unfolding shapeOf
+returns-8 c =
+    let e6 = c .before .before in let e5 = e6 .before .before in let e4 = e5 .before .before in let e3 = e4 .before .before in let e2 = e3 .before .before in
+    rw (no1 (e2 .before .before), no2 e2, no3 e3, no4 e4, no5 e5, no6 e6, sym (c .before .bad-plane .ensures) ∙ c .if7 .left)
+
+pub check-spec : {M : Type 1} → statement M
+check-spec =
+    tie.close
+    (tie.spec
+    (λ c κs. search needs)
+    returns
+    (λ c κs. search needs)
+    returns-2
+    (λ c κs. search needs)
+    returns-3
+    (λ c κs. search needs)
+    returns-4
+    (λ c κs. search needs)
+    returns-5
+    side-requires
+    mul-if6
+    returns-6
+    (λ c κs. search needs)
+    returns-7
+    returns-8)

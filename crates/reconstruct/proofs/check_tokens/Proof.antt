@@ -1,0 +1,78 @@
+-- `reconstruct::check_tokens` meets its contract.
+use mathlib.Core.Path.{_≡_, refl, sym, ap, _∙_}
+use mathlib.Core.Bool.{Bool, true, false, cond, _||_}
+use Prim.Native.Nat.{ℕ}
+use native.Mathlib.Omega.{arith}
+use lib.IntN.{pos, natAbs}
+use lib.ListN.{length}
+use mir.Syntax.{w64}
+use borrow.Author.Needs.{needs}
+use Rattle.whole.specs.Signed.{rd}
+use Rattle.whole.proofs.Signed.{rd-ok}
+use Rattle.answers.specs.Bad.{anyBeyond}
+use Rattle.answers.specs.Limits.{codeable}
+use Rattle.answers.proofs.Passed.{codeable-most}
+use Rattle.reconstruct.specs.Reconstruct.{badCoefficient, tokenAnswer}
+use Rattle.reconstruct.proofs.Sizes.{dc-fine, ac-fine}
+use Rattle.reconstruct.proofs.Above.{above-either, nine, none}
+use Rattle.reconstruct.proofs.check_tokens.Statement.{statement}
+use Rattle.reconstruct.proofs.check_tokens.Tie as tie
+
+-- the limit
+limit : (c : tie.After-max-codeable-coef) → rd w64 (c .max-codeable-coef .result) ≡ pos (codeable (c .before .args .depth))
+limit c = rd-ok w64 {z = c .max-codeable-coef .result} (c .max-codeable-coef .ok) ∙ c .max-codeable-coef .ensures
+
+dc-reach-requires : tie.Need-dc-reach-requires
+dc-reach-requires c κs = rw (limit c) (dc-fine _ _ (c .before .pre .1), codeable-most (c .before .args .depth))
+
+ac-reach-requires : tie.Need-ac-reach-requires
+ac-reach-requires c κs = rw (limit (c .before)) (ac-fine _ _ (c .before .before .pre .1), codeable-most (c .before .before .args .depth))
+
+-- the scan is both tests
+either : (c : tie.After-any-above) → let a = c .before .before .before .before .args in
+    c .any-above .result ≡ anyBeyond (codeable (a .depth)) (length (a .tokens .now)) (a .tokens .now) || badCoefficient (a .size) (a .dc-quant) (a .ac-quant) (a .tokens .now)
+either c =
+    let s = c .before .before .before .before in
+    let a = s .args in
+    let m = c .before .before .before in
+    c .any-above .ensures
+    ∙ rw (limit m) at (above-either (a .size) (natAbs (rd w64 (m .max-codeable-coef .result))) (c .before .before .dc-reach .result) (c .before .ac-reach .result) (a .dc-quant) (a .ac-quant) (s .pre .1)
+    (c .before .before .dc-reach .ensures) (c .before .ac-reach .ensures) (a .tokens .now))
+
+-- and the second scan the first of them
+tokens-first : (c : tie.After-any-beyond) → let a = c .before .before .before .before .before .before .args in
+    c .any-beyond .result ≡ anyBeyond (codeable (a .depth)) (length (a .tokens .now)) (a .tokens .now)
+tokens-first c = rw (limit (c .before .before .before .before .before)) at (c .any-beyond .ensures)
+
+returns : tie.Need-returns
+unfolding tokenAnswer
+returns c = rw (sym (tokens-first (c .before)) ∙ c .if2 .taken)
+
+returns-2 : tie.Need-returns-2
+unfolding tokenAnswer
+returns-2 c =
+    let e = sym (tokens-first (c .before)) ∙ c .if2 .left in
+    rw (e, nine _ _ (sym (either (c .before .before .before)) ∙ c .before .before .if1 .taken) e)
+
+returns-3 : tie.Need-returns-3
+unfolding tokenAnswer
+returns-3 c =
+    let a = c .before .before .before .before .before .args in
+    let x = anyBeyond (codeable (a .depth)) (length (a .tokens .now)) (a .tokens .now) in
+    let y = badCoefficient (a .size) (a .dc-quant) (a .ac-quant) (a .tokens .now) in
+    let e = none x y (sym (either (c .before)) ∙ c .if1 .left) in
+    rw (e .0, e .1)
+
+pub check-tokens-spec : {M : Type 1} → statement M
+check-tokens-spec =
+    tie.close
+    (tie.spec
+    (λ c κs. search needs)
+    (λ c. rw (limit c) (tt, record { fits = omega (arith, codeable-most (c .before .args .depth)) }))
+    dc-reach-requires
+    ac-reach-requires
+    (λ c κs. search needs)
+    (λ c κs. search needs)
+    returns
+    returns-2
+    returns-3)

@@ -1,0 +1,19 @@
+-- One bound for a token under its quantizer, in the place of two: the token's own limit and the coefficient's.
+use mathlib.Core.Path.{_≡_}
+use mathlib.Core.Bool.{Bool, cond, _||_}
+use mathlib.Core.List.{List}
+use Prim.Native.Nat.{ℕ, _*_, _/_}
+use lib.Dec.{ltb, eqb}
+use lib.IntN.{ℤ, pos, natAbs}
+use lib.ListN.{getD}
+use Rattle.whole.specs.Tests.{anyBelow}
+use Rattle.answers.specs.Limits.{COEF_LIMIT}
+use Rattle.quant.specs.Token.{dqDenom}
+
+-- a magnitude is above r where it is above `most` or its coefficient is beyond the limit
+pub record Bounds (size : ℕ) (q : ℤ) (most r : ℕ) : Type 0 where
+  pub tells : (m : ℕ) → ltb r m ≡ ltb most m || ltb COEF_LIMIT (m * natAbs q / dqDenom size)
+
+-- of the first n tokens some magnitude is above its bound: `dc` for place 0, `ac` for all others
+unfoldable pub anyAbove : ℕ → ℕ → ℕ → List ℤ → Bool
+anyAbove dc ac n tokens = anyBelow (λ k. ltb (cond (eqb k 0) dc ac) (natAbs (getD tokens k (pos 0)))) n

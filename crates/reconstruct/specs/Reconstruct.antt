@@ -1,0 +1,127 @@
+-- The reconstruction of a block: its answer, and every sample of the plane afterwards. Specification §8.6.2.
+use mathlib.Core.Path.{_≡_}
+use mathlib.Core.Bool.{Bool, false, cond, not, _&&_, _||_}
+use mathlib.Core.List.{List, [], _∷_}
+use Prim.Native.Nat.{ℕ, _+_, _-_, _*_, _^_, _≤_, _<_}
+use lib.Dec.{ltb, eqb}
+use lib.IntN.{ℤ, pos, natAbs}
+use lib.ListN.{length, getD}
+use Rattle.answers.specs.declared.Answer.{Answer}
+use Rattle.answers.specs.Answers.{number, lowest}
+use Rattle.answers.specs.Limits.{COEF_LIMIT, SIDE_LIMIT, codeable}
+use Rattle.answers.specs.Bad.{badDepth, badSize, badLossless, badKind, badQuantizer, anyBeyond}
+use Rattle.quant.specs.declared.DcQuant.{DcQuant}
+use Rattle.quant.specs.declared.AcQuant.{AcQuant}
+use Rattle.quant.specs.Places.{dequantAll}
+use Rattle.plane.specs.declared.Plane.{Plane}
+use Rattle.plane.specs.Place.{areaOf}
+use Rattle.plane.specs.Plane.{planeAfter}
+use Rattle.blocks.specs.Block.{live}
+use Rattle.blocks.specs.Inverse.{inverse2d, Possible}
+
+-- what the call is given
+pub record Input : Type 0 where
+  pub samples : List ℕ
+  pub plane : Plane
+  pub x : ℕ
+  pub y : ℕ
+  pub size : ℕ
+  pub tokens : List ℤ
+  pub dc : DcQuant
+  pub ac : AcQuant
+  pub kind : ℕ
+  pub lossless : Bool
+  pub depth : ℕ
+
+-- n0 = 4, 8, 16, 32, and how many numbers a block has
+abbrev pub side : ℕ → ℕ
+side size = 2 ^ (size + 2)
+
+abbrev pub area : ℕ → ℕ
+area size = side size * side size
+
+-- the largest sample
+abbrev pub largest : ℕ → ℕ
+largest depth = 2 ^ depth - 1
+
+-- 5: a quantizer outside its range
+unfoldable pub badQuantizers : DcQuant → AcQuant → Bool
+badQuantizers dc ac = badQuantizer (dc .0) || badQuantizer (ac .0)
+
+-- 7: a side above its limit, or samples not exactly width × height
+unfoldable pub badPlane : ℕ → Plane → Bool
+badPlane count p = ltb SIDE_LIMIT (p .width) || (ltb SIDE_LIMIT (p .height) || not (eqb count (areaOf p)))
+
+-- 9: a coefficient beyond its limit
+unfoldable pub badCoefficient : ℕ → DcQuant → AcQuant → List ℤ → Bool
+badCoefficient size dc ac tokens = anyBeyond COEF_LIMIT (length tokens) (dequantAll size dc ac tokens)
+
+-- the table of answers
+unfoldable pub answerOf : Input → ℕ
+answerOf u =
+    lowest
+    (
+    (1, badDepth (u .depth))
+    ∷ (2, badSize (u .size))
+    ∷ (3, badLossless (u .lossless) (u .size))
+    ∷ (4, badKind (u .lossless) (u .size) (u .kind))
+    ∷ (5, badQuantizers (u .dc) (u .ac))
+    ∷ (6, not (eqb (length (u .tokens)) (area (u .size))))
+    ∷ (7, badPlane (length (u .samples)) (u .plane))
+    ∷ (8, anyBeyond (codeable (u .depth)) (length (u .tokens)) (u .tokens))
+    ∷ (9, badCoefficient (u .size) (u .dc) (u .ac) (u .tokens))
+    ∷ []
+    )
+
+-- its part for the tokens
+unfoldable pub tokenAnswer : ℕ → DcQuant → AcQuant → ℕ → List ℤ → ℕ
+tokenAnswer size dc ac depth tokens =
+    lowest ((8, anyBeyond (codeable depth) (length tokens) tokens) ∷ (9, badCoefficient size dc ac tokens) ∷ [])
+
+-- its part that needs no token and no sample, only how many there are
+unfoldable pub shapeOf : ℕ → Plane → ℕ → ℕ → DcQuant → AcQuant → ℕ → Bool → ℕ → ℕ
+shapeOf samples plane size tokens dc ac kind lossless depth =
+    lowest
+    (
+    (1, badDepth depth)
+    ∷ (2, badSize size)
+    ∷ (3, badLossless lossless size)
+    ∷ (4, badKind lossless size kind)
+    ∷ (5, badQuantizers dc ac)
+    ∷ (6, not (eqb tokens (area size)))
+    ∷ (7, badPlane samples plane)
+    ∷ []
+    )
+
+-- tokens that are taken: the table has nothing against them, their number, their quantizers, the size and the type
+pub record Accepted (size : ℕ) (dc : DcQuant) (ac : AcQuant) (kind : ℕ) (lossless : Bool) (tokens : List ℤ) : Type 0 where
+  pub possible : Possible (size + 2) kind lossless
+  pub quantizers : badQuantizers dc ac ≡ false
+  pub all : length tokens ≡ area size
+  pub codeables : (k : ℕ) → k < length tokens → natAbs (getD tokens k (pos 0)) ≤ codeable 12
+  pub coefs : (k : ℕ) → k < length tokens → natAbs (getD (dequantAll size dc ac tokens) k (pos 0)) ≤ COEF_LIMIT
+
+-- the type is 0, and of the tokens only that at place 0 is live
+unfoldable pub onlyFirst : ℕ → List ℤ → Bool
+onlyFirst kind tokens = eqb kind 0 && not (live 1 (length tokens - 1) tokens)
+
+-- the residual: the inverse transform of the coefficients
+unfoldable pub residual : ℕ → DcQuant → AcQuant → ℕ → Bool → List ℤ → List ℤ
+residual size dc ac kind lossless tokens = inverse2d (size + 2) kind lossless (dequantAll size dc ac tokens)
+
+-- the samples after it is added back, each clipped to 0 .. top
+unfoldable pub added : Plane → ℕ → ℕ → ℕ → ℕ → DcQuant → AcQuant → ℕ → Bool → List ℤ → List ℕ → List ℕ
+added plane top x y size dc ac kind lossless tokens samples =
+    planeAfter plane top x y (side size) (λ i j. getD (residual size dc ac kind lossless tokens) (i * side size + j) (pos 0)) samples
+
+-- the samples afterwards: as they were under a refusal
+unfoldable pub samplesAfter : Input → List ℕ
+samplesAfter u =
+    cond (eqb (answerOf u) 0)
+    (added (u .plane) (largest (u .depth)) (u .x) (u .y) (u .size) (u .dc) (u .ac) (u .kind) (u .lossless) (u .tokens) (u .samples))
+    (u .samples)
+
+-- the promise
+pub record Reconstructed (u : Input) (answer : Answer) (after : List ℕ) : Type 0 where
+  pub answered : number answer ≡ answerOf u
+  pub written : after ≡ samplesAfter u

@@ -1,0 +1,489 @@
+use answers::Answer;
+use answers::COEF_LIMIT;
+use answers::SIDE_LIMIT;
+use answers::any_beyond;
+use answers::bad_depth;
+use answers::bad_kind;
+use answers::bad_lossless;
+use answers::bad_size;
+use answers::code;
+use answers::magnitude;
+use blocks::any_live;
+use plane::Plane;
+use quant::AcQuant;
+use quant::DcQuant;
+use quant::max_codeable_coef;
+ghost use mathlib.Core.Bool.{false, cond};
+ghost use mathlib.Core.Path.{_≡_};
+ghost use Prim.Native.Nat.{ℕ, _+_, _-_, _*_, _^_, _≤_, _<_};
+ghost use lib.Dec.{eqb};
+ghost use lib.IntN.{pos, natAbs};
+ghost use lib.ListN.{length, getD, replicate};
+ghost use Rattle.whole.specs.Lists.{tabulate, fill};
+ghost use Rattle.whole.specs.Within.{AllWithin};
+ghost use Rattle.answers.specs.Answers.{number};
+ghost use Rattle.answers.specs.Bad.{badDepth, badQuantizer};
+ghost use Rattle.answers.specs.Limits.{COEF_LIMIT, codeable};
+ghost use Rattle.quant.specs.Places.{quantizerAt};
+ghost use Rattle.quant.specs.Token.{dqDenom, dequant};
+ghost use Rattle.plane.specs.Place.{SamplesOf};
+ghost use Rattle.plane.specs.Plane.{planeAfter};
+ghost use Rattle.blocks.specs.Block.{FirstWithin};
+ghost use Rattle.blocks.specs.Inverse.{inverse2d, dcOnly, Possible};
+ghost use Rattle.reconstruct.specs.Bound.{Bounds, anyAbove};
+ghost use Rattle.reconstruct.specs.Reconstruct.{side, largest, badQuantizers, badPlane, shapeOf, tokenAnswer, Accepted, added, onlyFirst, Reconstructed};
+
+// n0, the numbers of a row of the block.
+fn side(size: u32) -> usize
+    requires { ⌜ size ≤ 3 ⌝ }
+    ensures { λ r. ⌜ r ≡ side size ⌝ }
+{
+    match size {
+        0 => 4,
+        1 => 8,
+        2 => 16,
+        _ => 32,
+    }
+}
+
+// The largest sample.
+fn largest(depth: u32) -> u16
+    requires { ⌜ badDepth depth ≡ false ⌝ }
+    ensures { λ r. ⌜ r ≡ largest depth ⌝ }
+{
+    match depth {
+        8 => 255,
+        10 => 1023,
+        _ => 4095,
+    }
+}
+
+// A quantizer outside its range.
+fn bad_quantizers(dc_quant: DcQuant, ac_quant: AcQuant) -> bool
+    ensures { λ r. ⌜ r ≡ badQuantizers «dc_quant» «ac_quant» ⌝ }
+{
+    if dc_quant.bad() {
+        return true;
+    }
+    ac_quant.bad()
+}
+
+// A side above its limit, or samples not exactly width × height.
+fn bad_plane(samples: usize, plane: Plane) -> bool
+    ensures { λ r. ⌜ r ≡ badPlane samples plane ⌝ }
+{
+    let width = plane.width;
+    let height = plane.height;
+    if SIDE_LIMIT < width {
+        return true;
+    }
+    if SIDE_LIMIT < height {
+        return true;
+    }
+    samples != width * height
+}
+
+// The answer as far as it needs no token and no sample.
+fn check(
+    samples: usize,
+    plane: Plane,
+    size: u32,
+    tokens: usize,
+    dc_quant: DcQuant,
+    ac_quant: AcQuant,
+    kind: u8,
+    lossless: bool,
+    depth: u32,
+) -> Answer
+    ensures { λ r. ⌜ number r ≡ shapeOf samples plane size tokens «dc_quant» «ac_quant» kind lossless depth ⌝ }
+{
+    if bad_depth(depth) {
+        return Answer::Depth;
+    }
+    if bad_size(size) {
+        return Answer::Size;
+    }
+    if bad_lossless(lossless, size) {
+        return Answer::LosslessSize;
+    }
+    if bad_kind(lossless, size, kind) {
+        return Answer::Kind;
+    }
+    if bad_quantizers(dc_quant, ac_quant) {
+        return Answer::Quantizer;
+    }
+    let n0 = side(size);
+    if tokens != n0 * n0 {
+        return Answer::Length;
+    }
+    if bad_plane(samples, plane) {
+        return Answer::Plane;
+    }
+    Answer::Done
+}
+
+// The greatest product of token and quantizer whose coefficient is within its limit.
+fn room(size: u32) -> u64
+    ensures { λ r. ⌜ r ≡ COEF_LIMIT * dqDenom size + (dqDenom size - 1) ⌝ }
+{
+    if size == 3 {
+        return 2 * COEF_LIMIT + 1;
+    }
+    COEF_LIMIT
+}
+
+// The greatest magnitude, at most `most`, of a token whose coefficient is within its limit.
+fn reach(quantizer: i32, size: u32, most: u64) -> u64
+    requires { ⌜ (badQuantizer quantizer ≡ false) × (most ≤ codeable 12) ⌝ }
+    ensures { λ r. ⌜ Bounds size quantizer most r ⌝ }
+{
+    let q = quantizer as u64;
+    let top = room(size);
+    if most * q <= top {
+        return most;
+    }
+    top / q
+}
+
+fn dc_reach(dc_quant: DcQuant, size: u32, most: u64) -> u64
+    requires { ⌜ (badQuantizer («dc_quant» .0) ≡ false) × (most ≤ codeable 12) ⌝ }
+    ensures { λ r. ⌜ Bounds size («dc_quant» .0) most r ⌝ }
+{
+    let dc = dc_quant.0;
+    reach(dc, size, most)
+}
+
+fn ac_reach(ac_quant: AcQuant, size: u32, most: u64) -> u64
+    requires { ⌜ (badQuantizer («ac_quant» .0) ≡ false) × (most ≤ codeable 12) ⌝ }
+    ensures { λ r. ⌜ Bounds size («ac_quant» .0) most r ⌝ }
+{
+    let ac = ac_quant.0;
+    reach(ac, size, most)
+}
+
+// The bound of place k.
+fn bound_at(k: usize, dc: u64, ac: u64) -> u64
+    ensures { λ r. ⌜ r ≡ cond (eqb k 0) dc ac ⌝ }
+{
+    if k == 0 {
+        return dc;
+    }
+    ac
+}
+
+// Whether some of the first `count` tokens is above its bound; a count and no early return, for speed.
+fn some_above(tokens: &[i64], count: usize, dc: u64, ac: u64) -> bool
+    requires { ⌜ count ≤ length (now tokens) ⌝ }
+    ensures { λ r. ⌜ r ≡ anyAbove dc ac count (now (tokens .entry)) ⌝ }
+{
+    let mut above = 0usize;
+    for k in 0..count {
+        if bound_at(k, dc, ac) < magnitude(tokens[k]) {
+            above += 1;
+        }
+    }
+    above != 0
+}
+
+// The same of all tokens; of sixteen by a literal count, for speed.
+fn any_above(tokens: &[i64], dc: u64, ac: u64) -> bool
+    ensures { λ r. ⌜ r ≡ anyAbove dc ac (length (now (tokens .entry))) (now (tokens .entry)) ⌝ }
+{
+    let count = tokens.len();
+    if count == 16 {
+        return some_above(tokens, 16, dc, ac);
+    }
+    some_above(tokens, count, dc, ac)
+}
+
+// The answer of the tokens: an 8 anywhere before any 9.
+fn check_tokens(
+    tokens: &[i64],
+    size: u32,
+    dc_quant: DcQuant,
+    ac_quant: AcQuant,
+    depth: u32,
+) -> Answer
+    requires { ⌜ (badDepth depth ≡ false) × (badQuantizers «dc_quant» «ac_quant» ≡ false) ⌝ }
+    ensures { λ r. ⌜ number r ≡ tokenAnswer size «dc_quant» «ac_quant» depth (now (tokens .entry)) ⌝ }
+{
+    let most = max_codeable_coef(depth) as u64;
+    if any_above(
+        tokens,
+        dc_reach(dc_quant, size, most),
+        ac_reach(ac_quant, size, most),
+    ) {
+        if any_beyond(tokens, tokens.len(), most) {
+            return Answer::Token;
+        }
+        return Answer::Coefficient;
+    }
+    Answer::Done
+}
+
+// 1,024 zeros.
+fn zeros() -> [i64; 1024]
+    ensures { λ r. ⌜ r ≡ replicate 1024 (pos 0) ⌝ }
+{
+    [0i64; 1024]
+}
+
+// The coefficient of the token at place k: DC at place 0, AC at all others.
+fn coef_at(k: usize, token: i64, size: u32, dc_quant: DcQuant, ac_quant: AcQuant) -> i64
+    requires { ⌜ (badQuantizers «dc_quant» «ac_quant» ≡ false) × (natAbs token ≤ codeable 12) ⌝ }
+    ensures { λ r. ⌜ r ≡ dequant size (quantizerAt «dc_quant» «ac_quant» k) token ⌝ }
+{
+    if k == 0 {
+        return dc_quant.dequant(token, size);
+    }
+    ac_quant.dequant(token, size)
+}
+
+// The coefficients of the first `count` tokens into the front of the block.
+fn dequantize(
+    block: &mut [i64; 1024],
+    tokens: &[i64],
+    count: usize,
+    size: u32,
+    dc_quant: DcQuant,
+    ac_quant: AcQuant,
+)
+    requires { ⌜ (count ≤ 1024) × (count ≤ length (now tokens)) × ((k : ℕ) → k < count → natAbs (getD (now tokens) k (pos 0)) ≤ codeable 12) × (badQuantizers «dc_quant» «ac_quant» ≡ false) ⌝ }
+    ensures { λ _. ⌜ now (block .exit) ≡ fill count (λ k. dequant size (quantizerAt «dc_quant» «ac_quant» k) (getD (now (tokens .entry)) k (pos 0))) (now (block .entry)) ⌝ }
+{
+    for k in 0..count {
+        block[k] = coef_at(k, tokens[k], size, dc_quant, ac_quant);
+    }
+}
+
+// The sixteen numbers of a 4 by 4 block by themselves.
+fn front(block: &[i64; 1024]) -> [i64; 16]
+    ensures { λ r. ⌜ r ≡ tabulate (λ k. getD (now (block .entry)) k (pos 0)) 16 ⌝ }
+{
+    let mut few = [0i64; 16];
+    for k in 0..16usize {
+        few[k] = block[k];
+    }
+    few
+}
+
+// And back into the block.
+fn put_front(block: &mut [i64; 1024], few: &[i64; 16])
+    ensures { λ _. ⌜ now (block .exit) ≡ fill 16 (λ k. getD (now (few .entry)) k (pos 0)) (now (block .entry)) ⌝ }
+{
+    for k in 0..16usize {
+        block[k] = few[k];
+    }
+}
+
+// A 4 by 4 residual into the plane. A whole block is read at literal places only, a cut one by itself: so the 1,024 cost nothing.
+fn add_back4(samples: &mut [u16], plane: Plane, x: usize, y: usize, block: &[i64; 1024], top: u16)
+    requires { ⌜ SamplesOf plane (now samples) × (length (now block) ≡ 1024) × AllWithin (2 ^ 62) (now block) ⌝ }
+    ensures { λ _. ⌜ now (samples .exit) ≡ planeAfter plane top x y 4 (λ i j. getD (now (block .entry)) (i * 4 + j) (pos 0)) (now (samples .entry)) ⌝ }
+{
+    let rows = plane::cut(plane.height, y, 4);
+    let cols = plane::cut(plane.width, x, 4);
+    if rows == 4 {
+        if cols == 4 {
+            plane::add_rows(samples, plane, x, y, block, 4, 4, 4, 4, top);
+            return;
+        }
+    }
+    let few = front(block);
+    plane::add_back(samples, plane, x, y, &few, 4, 4, top);
+}
+
+// The residual of a 4 by 4 block in the place of its coefficients.
+fn inverse4(block: &mut [i64; 1024], kind: u8, lossless: bool)
+    requires { ⌜ (length (now block) ≡ 1024) × Possible 2 kind lossless × FirstWithin (2 ^ 31) 16 (now block) ⌝ }
+    ensures { λ _. ⌜ now (block .exit) ≡ inverse2d 2 kind lossless (now (block .entry)) ⌝ }
+{
+    let mut few = front(block);
+    idct::fast::inverse_fast(&mut few, 2, kind, lossless);
+    put_front(block, &few);
+}
+
+// Tokens that are taken, 4 by 4.
+fn reconstruct_4(
+    samples: &mut [u16],
+    plane: Plane,
+    x: usize,
+    y: usize,
+    tokens: &[i64],
+    dc_quant: DcQuant,
+    ac_quant: AcQuant,
+    kind: u8,
+    lossless: bool,
+    top: u16,
+)
+    requires { ⌜ SamplesOf plane (now samples) × Accepted 0 «dc_quant» «ac_quant» kind lossless (now tokens) ⌝ }
+    ensures { λ _. ⌜ now (samples .exit) ≡ added plane top x y 0 «dc_quant» «ac_quant» kind lossless (now (tokens .entry)) (now (samples .entry)) ⌝ }
+{
+    let mut block = zeros();
+    dequantize(&mut block, tokens, 16, 0, dc_quant, ac_quant);
+    inverse4(&mut block, kind, lossless);
+    add_back4(samples, plane, x, y, &block, top);
+}
+
+// The same at any size.
+fn reconstruct_n(
+    samples: &mut [u16],
+    plane: Plane,
+    x: usize,
+    y: usize,
+    size: u32,
+    tokens: &[i64],
+    dc_quant: DcQuant,
+    ac_quant: AcQuant,
+    kind: u8,
+    lossless: bool,
+    top: u16,
+)
+    requires { ⌜ SamplesOf plane (now samples) × Accepted size «dc_quant» «ac_quant» kind lossless (now tokens) ⌝ }
+    ensures { λ _. ⌜ now (samples .exit) ≡ added plane top x y size «dc_quant» «ac_quant» kind lossless (now (tokens .entry)) (now (samples .entry)) ⌝ }
+{
+    let mut block = zeros();
+    dequantize(&mut block, tokens, tokens.len(), size, dc_quant, ac_quant);
+    idct::fast::both_passes(&mut block, size + 2, kind, lossless);
+    let n0 = side(size);
+    plane::add_back(samples, plane, x, y, &block, n0, n0, top);
+}
+
+fn row_of(v: i64) -> [i64; 32]
+    ensures { λ r. ⌜ r ≡ replicate 32 v ⌝ }
+{
+    [v; 32]
+}
+
+// Only the token at place 0 is live, and the type is 0: every number of the residual is the same.
+fn reconstruct_flat(
+    samples: &mut [u16],
+    plane: Plane,
+    x: usize,
+    y: usize,
+    size: u32,
+    token: i64,
+    dc_quant: DcQuant,
+    top: u16,
+)
+    requires { ⌜ SamplesOf plane (now samples) × (size ≤ 3) × (badQuantizer («dc_quant» .0) ≡ false) × (natAbs token ≤ codeable 12) × (natAbs (dequant size («dc_quant» .0) token) ≤ COEF_LIMIT) ⌝ }
+    ensures { λ _. ⌜ now (samples .exit) ≡ planeAfter plane top x y (side size) (λ i j. dcOnly (size + 2) (dequant size («dc_quant» .0) token)) (now (samples .entry)) ⌝ }
+{
+    let mut block = zeros();
+    block[0] = dc_quant.dequant(token, size);
+    let row = row_of(idct::fast::dc_value(block[0], size + 2));
+    plane::add_back(samples, plane, x, y, &row, 0, side(size), top);
+}
+
+// Whether the type is 0 and no token but that at place 0 is live.
+fn only_first(tokens: &[i64], kind: u8) -> bool
+    requires { ⌜ 1 ≤ length (now tokens) ⌝ }
+    ensures { λ r. ⌜ r ≡ onlyFirst kind (now (tokens .entry)) ⌝ }
+{
+    if kind != 0 {
+        return false;
+    }
+    !any_live(tokens, 1, tokens.len() - 1)
+}
+
+// The residual of tokens that are taken, into the plane.
+fn add_residual(
+    samples: &mut [u16],
+    plane: Plane,
+    x: usize,
+    y: usize,
+    size: u32,
+    tokens: &[i64],
+    dc_quant: DcQuant,
+    ac_quant: AcQuant,
+    kind: u8,
+    lossless: bool,
+    top: u16,
+)
+    requires { ⌜ SamplesOf plane (now samples) × Accepted size «dc_quant» «ac_quant» kind lossless (now tokens) ⌝ }
+    ensures { λ _. ⌜ now (samples .exit) ≡ added plane top x y size «dc_quant» «ac_quant» kind lossless (now (tokens .entry)) (now (samples .entry)) ⌝ }
+{
+    if size == 0 {
+        reconstruct_4(
+            samples,
+            plane,
+            x,
+            y,
+            tokens,
+            dc_quant,
+            ac_quant,
+            kind,
+            lossless,
+            top,
+        );
+        return;
+    }
+    if only_first(tokens, kind) {
+        reconstruct_flat(samples, plane, x, y, size, tokens[0], dc_quant, top);
+        return;
+    }
+    reconstruct_n(
+        samples,
+        plane,
+        x,
+        y,
+        size,
+        tokens,
+        dc_quant,
+        ac_quant,
+        kind,
+        lossless,
+        top,
+    );
+}
+
+// The block's residual added to the samples at (x, y), as far as the plane has them. Refused, nothing is changed.
+pub fn reconstruct_block(
+    samples: &mut [u16],
+    plane: Plane,
+    x: usize,
+    y: usize,
+    tx_sz: u32,
+    tokens: &[i64],
+    dc_quant: DcQuant,
+    ac_quant: AcQuant,
+    tx_type: u8,
+    lossless: bool,
+    bit_depth: u32,
+) -> Answer
+    ensures { λ r. ⌜ Reconstructed (record { samples = now (samples .entry); plane = plane; x = x; y = y; size = «tx_sz»; tokens = now (tokens .entry); dc = «dc_quant»; ac = «ac_quant»; kind = «tx_type»; lossless = lossless; depth = «bit_depth» }) r (now (samples .exit)) ⌝ }
+{
+    let shape = check(
+        samples.len(),
+        plane,
+        tx_sz,
+        tokens.len(),
+        dc_quant,
+        ac_quant,
+        tx_type,
+        lossless,
+        bit_depth,
+    );
+    if code(shape) != 0 {
+        return shape;
+    }
+    let answer = check_tokens(tokens, tx_sz, dc_quant, ac_quant, bit_depth);
+    if code(answer) != 0 {
+        return answer;
+    }
+    let top = largest(bit_depth);
+    add_residual(
+        samples,
+        plane,
+        x,
+        y,
+        tx_sz,
+        tokens,
+        dc_quant,
+        ac_quant,
+        tx_type,
+        lossless,
+        top,
+    );
+    answer
+}
