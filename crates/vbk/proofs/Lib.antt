@@ -1,2 +1,5 @@
 pub mod Numbers
 pub mod Records
+pub mod Tokens
+pub mod Runs
+pub mod Printing
