@@ -88,6 +88,18 @@ module _ (n : ℕ) (l : 2 ≤ n) (h : n ≤ 5) (p : Pass) (s : List ℤ) (room :
   pub column-grown : Valid 0 p n → FirstWithin (2 ^ 37) (2 ^ n * 2 ^ n) s → (j : ℕ) → j < 2 ^ n → FirstWithin (2 ^ 43) (2 ^ n) (apply p n (column (2 ^ n) j s))
   column-grown v b j hj = each-first (2 ^ 43) (2 ^ n) (pass-column p n v (first-each (column-within (2 ^ n) (2 ^ 37) s (side-most n l h) b j hj)) .1)
 
+-- after the rows: the room is the same, and the columns' range
+pub after-rows : (p : Pass) (n : ℕ) → 2 ≤ n → n ≤ 5 → Valid 2 p n → (s u : List ℤ) → 2 ^ n * 2 ^ n ≤ length s → FirstWithin (2 ^ 31) (2 ^ n * 2 ^ n) s
+    → u ≡ rows (apply p n) (2 ^ n) s → (2 ^ n * 2 ^ n ≤ length u) × FirstWithin (2 ^ 37) (2 ^ n * 2 ^ n) u
+after-rows p n l h v s u room b e =
+    rw e (rw (rows-length (apply p n) (2 ^ n) s) room, rows-within n l h p s room v b)
+
+-- rows, then columns
+pub both-passes : (n type : ℕ) (lossless : Bool) (s u : List ℤ) {v : List ℤ} → u ≡ rows (apply (rowPass type lossless) n) (2 ^ n) s
+    → v ≡ columns (apply (columnPass type lossless) n) (rounding n lossless) (2 ^ n) u → v ≡ inverse2d n type lossless s
+unfolding inverse2d rowsThenColumns
+both-passes n type lossless s u e f = f ∙ ap (columns (apply (columnPass type lossless) n) (rounding n lossless) (2 ^ n)) e
+
 -- the rounding takes nothing further from 0 than 2^43
 rounding-within : (n : ℕ) (lossless : Bool) {z : ℤ} → 2 ≤ n → n ≤ 5 → Within (2 ^ 43) z → Within (2 ^ 43) (rounding n lossless z)
 unfolding rounding
@@ -110,15 +122,15 @@ inverse2d-within n type lossless s q room b =
     }
 
 -- ---- ZERO ROWS: a row of zeros stays as it is, whatever the pass
-pub zero-row : (p : Pass) (n : ℕ) → ((t : List ℤ) → Zeros (2 ^ n) t → apply p n t ≡ t) → 2 ^ n ≤ 32 → (start : ℕ) (s : List ℤ) → live start (2 ^ n) s ≡ false
-    → on (apply p n) (λ z. z) start 1 (2 ^ n) s ≡ s
-zero-row p n f h start s e =
-    let t = line start 1 (2 ^ n) s in
-    let z : Zeros (2 ^ n) t = record {
-      long = rw (line-length start 1 (2 ^ n) s) h;
-      zeros = λ k l. line-at start 1 (2 ^ n) s k h l ∙ rw (NatL.mul-one k) (dead-at start (2 ^ n) s e k l);
+pub zero-row : (p : Pass) (n n0 : ℕ) → ((t : List ℤ) → Zeros (n0) t → apply p n t ≡ t) → n0 ≤ 32 → (start : ℕ) (s : List ℤ) → live start (n0) s ≡ false
+    → on (apply p n) (λ z. z) start 1 (n0) s ≡ s
+zero-row p n n0 f h start s e =
+    let t = line start 1 (n0) s in
+    let z : Zeros (n0) t = record {
+      long = rw (line-length start 1 (n0) s) h;
+      zeros = λ k l. line-at start 1 (n0) s k h l ∙ rw (NatL.mul-one k) (dead-at start (n0) s e k l);
     } in
-    on-still (apply p n) (λ z. z) start 1 (2 ^ n) s h (λ k l. ap (λ (u : List ℤ). getD u k (pos 0)) (f t z))
+    on-still (apply p n) (λ z. z) start 1 (n0) s h (λ k l. ap (λ (u : List ℤ). getD u k (pos 0)) (f t z))
 
 -- ---- DC-ONLY: where all but place 0 is 0, type 0 gives one number everywhere
 module _ (n : ℕ) (l : 2 ≤ n) (h : n ≤ 5) (s : List ℤ) (room : 2 ^ n * 2 ^ n ≤ length s) (dead : live 1 (2 ^ n * 2 ^ n - 1) s ≡ false) where
@@ -143,23 +155,23 @@ module _ (n : ℕ) (l : 2 ≤ n) (h : n ≤ 5) (s : List ℤ) (room : 2 ^ n * 2 
         ∙ other (i * 2 ^ n + k * 1) (omega (arith, NatL.mul-le-mul z (pow-pos n))) (in-row (2 ^ n) i k (2 ^ n * 2 ^ n) hi q (omega arith));
   }
 
-  after-rows : List ℤ
-  after-rows = rows (apply Dct n) (2 ^ n) s
+  rows-done : List ℤ
+  rows-done = rows (apply Dct n) (2 ^ n) s
 
   -- every column is its first number alone, the same for all
-  each-column : (j : ℕ) → j < 2 ^ n → Alone (2 ^ n) (turned (getD s 0 (pos 0))) (column (2 ^ n) j after-rows)
-  unfolding after-rows apply turned
+  each-column : (j : ℕ) → j < 2 ^ n → Alone (2 ^ n) (turned (getD s 0 (pos 0))) (column (2 ^ n) j rows-done)
+  unfolding rows-done apply turned
   each-column j hj = record {
-    long = rw (line-length j (2 ^ n) (2 ^ n) after-rows) (side-most n l h);
-    here = line-at j (2 ^ n) (2 ^ n) after-rows 0 (side-most n l h) (pow-pos n)
+    long = rw (line-length j (2 ^ n) (2 ^ n) rows-done) (side-most n l h);
+    here = line-at j (2 ^ n) (2 ^ n) rows-done 0 (side-most n l h) (pow-pos n)
         ∙ rw (NatL.add-comm j (0 * 2 ^ n)) (rows-at (apply Dct n) (2 ^ n) s room 0 j (pow-pos n) hj ∙ dct-dc n l h first-row j hj);
-    zeros = λ k z q. line-at j (2 ^ n) (2 ^ n) after-rows k (side-most n l h) q
+    zeros = λ k z q. line-at j (2 ^ n) (2 ^ n) rows-done k (side-most n l h) q
         ∙ rw (NatL.add-comm j (k * 2 ^ n)) (rows-at (apply Dct n) (2 ^ n) s room k j q hj
         ∙ rw (dct-zeros n l h (other-row k z q)) (other-row k z q .zeros j hj));
   }
 
   pub dc-only : inverse2d n 0 false s ≡ anew (2 ^ n) (λ i j. dcOnly n (getD s 0 (pos 0))) s
-  unfolding after-rows apply turned rounding dcOnly
+  unfolding rows-done apply turned rounding dcOnly
   dc-only =
       block-ext (2 ^ n) (inverse2d n 0 false s) (anew (2 ^ n) (λ i j. dcOnly n (getD s 0 (pos 0))) s)
       (inverse2d-length n 0 false s ∙ sym (anew-length (2 ^ n) (λ i j. dcOnly n (getD s 0 (pos 0))) s))

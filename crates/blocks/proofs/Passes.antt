@@ -84,3 +84,9 @@ row-valid n type false h = lossy-valid 2 (eqb type 0 || eqb type 1) n (h .least)
 pub column-valid : (n type : ℕ) (lossless : Bool) → Possible n type lossless → Valid 0 (columnPass type lossless) n
 column-valid n type true h = (h .small refl, refl)
 column-valid n type false h = lossy-valid 0 (eqb type 0 || eqb type 2) n (h .least) (h .most) (λ e. rw (h .large refl e))
+
+-- where it is the ADST, n is at most 4
+pub adst-side : (shift k n : ℕ) (lossless use-dct : Bool) → Valid shift (cond lossless (Wht k) (lossy use-dct)) n → lossless ≡ false → use-dct ≡ false → n ≤ 4
+adst-side shift k n true b v e f = let z : _≡_ {A = ℕ} 0 1 = cc in omega arith
+adst-side shift k n false true v e f = let z : _≡_ {A = ℕ} 0 1 = cc in omega arith
+adst-side shift k n false false v e f = v .1

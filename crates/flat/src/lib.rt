@@ -1,11 +1,11 @@
 ghost use mathlib.Core.Path.{_≡_};
 ghost use Prim.Native.Nat.{ℕ, _+_, _^_, _≤_, _<_};
 ghost use lib.ListN.{length, getD};
+ghost use Rattle.whole.specs.Steps.{run, Ok};
 ghost use Rattle.whole.specs.Within.{Within};
 ghost use Rattle.primitives.specs.Rotations.{turnX, turnY};
 ghost use Rattle.steps.specs.Step.{Bf, Hd, Neg, Move, step, Fine};
 ghost use Rattle.steps.specs.Step2.{SB, SH, step2, fresh, Fine2};
-ghost use Rattle.whole.specs.Steps.{run, Ok};
 ghost use Rattle.dct.specs.Dct.{tail, dctRow, dct};
 ghost use Rattle.adst.specs.Adst.{arrays, adstIn, adstOut, adstSteps, adst};
 
@@ -236,6 +236,14 @@ fn fb(t: &mut [i64; 32], a: usize, b: usize, angle: i32, flip: bool)
     }
 }
 
+// H(a, b, flip) on t.
+fn fh(t: &mut [i64; 32], a: usize, b: usize, flip: bool)
+    requires { ⌜ Fine (2 ^ 46) (Hd a b flip) (now t) ⌝ }
+    ensures { λ _. ⌜ now (t .exit) ≡ step (Hd a b flip) (now (t .entry)) ⌝ }
+{
+    primitives::hadamard(t, a, b, flip);
+}
+
 // t[i] = copy_t[from[at + i]] for i below n0. The table is lent: it folds away where the caller has it whole.
 fn reorder(t: &mut [i64; 32], from: &[usize], at: usize, n0: usize)
     requires { ⌜ (n0 ≤ 32) × (at + n0 ≤ length (now from)) × ((i : ℕ) → i < n0 → getD (now from) (at + i) 0 < 32) ⌝ }
@@ -245,14 +253,6 @@ fn reorder(t: &mut [i64; 32], from: &[usize], at: usize, n0: usize)
     for i in 0..n0 {
         t[i] = copy_t[from[at + i]];
     }
-}
-
-// H(a, b, flip) on t.
-fn fh(t: &mut [i64; 32], a: usize, b: usize, flip: bool)
-    requires { ⌜ Fine (2 ^ 46) (Hd a b flip) (now t) ⌝ }
-    ensures { λ _. ⌜ now (t .exit) ≡ step (Hd a b flip) (now (t .entry)) ⌝ }
-{
-    primitives::hadamard(t, a, b, flip);
 }
 
 // Steps 2 to 7 for n = 2.
@@ -462,7 +462,7 @@ fn fneg(t: &mut [i64; 32], i: usize)
     t[i] = -t[i];
 }
 
-// The permutation into ADST8. A function of its own, so that the loop unrolls before it meets the calls around it.
+// The permutation into ADST8. It and the next three are functions of their own, so that the loop unrolls before it meets the calls around it.
 fn input8(t: &mut [i64; 32])
     ensures { λ _. ⌜ now (t .exit) ≡ step (Move 8 (adstIn 3)) (now (t .entry)) ⌝ }
 {
@@ -470,7 +470,7 @@ fn input8(t: &mut [i64; 32])
     reorder(t, &from, 0, 8);
 }
 
-// The permutation out of ADST8. A function of its own, so that the loop unrolls before it meets the calls around it.
+// The permutation out of ADST8.
 fn output8(t: &mut [i64; 32])
     ensures { λ _. ⌜ now (t .exit) ≡ step (Move 8 (adstOut 3)) (now (t .entry)) ⌝ }
 {
@@ -478,7 +478,7 @@ fn output8(t: &mut [i64; 32])
     reorder(t, &from, 0, 8);
 }
 
-// The permutation into ADST16. A function of its own, so that the loop unrolls before it meets the calls around it.
+// The permutation into ADST16.
 fn input16(t: &mut [i64; 32])
     ensures { λ _. ⌜ now (t .exit) ≡ step (Move 16 (adstIn 4)) (now (t .entry)) ⌝ }
 {
@@ -486,7 +486,7 @@ fn input16(t: &mut [i64; 32])
     reorder(t, &from, 0, 16);
 }
 
-// The permutation out of ADST16. A function of its own, so that the loop unrolls before it meets the calls around it.
+// The permutation out of ADST16.
 fn output16(t: &mut [i64; 32])
     ensures { λ _. ⌜ now (t .exit) ≡ step (Move 16 (adstOut 4)) (now (t .entry)) ⌝ }
 {
@@ -494,7 +494,7 @@ fn output16(t: &mut [i64; 32])
     reorder(t, &from, 0, 16);
 }
 
-// The inverse ADST of 4 numbers, by six products: SINPI_4_9 is SINPI_1_9 + SINPI_2_9.
+// The inverse ADST of 4 numbers. 5283, 9929, 13377 are SINPI_1_9 to SINPI_3_9; SINPI_4_9 is the sum of the first two, so six products do for eight.
 pub fn iadst_fast4(t: &mut [i64; 32])
     requires { ⌜ Ok step2 (Fine2 (2 ^ 46)) (adstSteps 2) (fresh (now t)) ⌝ }
     ensures { λ _. ⌜ now (t .exit) ≡ adst 2 (now (t .entry)) ⌝ }

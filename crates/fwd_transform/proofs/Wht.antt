@@ -27,7 +27,7 @@ use Rattle.quant.specs.Token.{dequant}
 use Rattle.quant.specs.declared.AcQuant.{AcQuant}
 use Rattle.quant.specs.declared.DcQuant.{DcQuant}
 use Rattle.steps.specs.Step.{FourWithin}
-use Rattle.blocks.specs.Block.{line, row, column, rows, columns, on, passes, FirstWithin}
+use Rattle.blocks.specs.Block.{line, row, column, rows, columns, on, rowsThenColumns, FirstWithin}
 use Rattle.blocks.proofs.Lines.{line-length, line-at, line-past, line-same}
 use Rattle.blocks.proofs.Blocks.{rows-length, rows-at, row-to-come, columns-length, columns-at, column-to-come}
 use Rattle.blocks.proofs.Places.{le-or-lt}
@@ -89,8 +89,8 @@ module _ (s u : List ℤ) (room : 16 ≤ length s) (wide : 16 ≤ length u) (fou
       ∙ line-at (i * 4) 1 4 middle j (omega arith) hj ∙ ap (λ (p : ℕ). getD middle p (pos 0)) e
 
   -- and its columns the block
-  undone : (i j : ℕ) → i < 4 → j < 4 → getD (passes (wht 2) (wht 0) (λ z. z) 4 u) (i * 4 + j) (pos 0) ≡ getD s (i * 4 + j) (pos 0)
-  unfolding passes middle
+  undone : (i j : ℕ) → i < 4 → j < 4 → getD (rowsThenColumns (wht 2) (wht 0) (λ z. z) 4 u) (i * 4 + j) (pos 0) ≡ getD s (i * 4 + j) (pos 0)
+  unfolding rowsThenColumns middle
   undone i j hi hj =
       let r = rows (wht 2) 4 u in
       let c : column 4 j r ≡ column 4 j middle = line-same j 4 4 r middle (λ k l. let e : j + k * 4 ≡ k * 4 + j = omega arith in rw e (rows-back k j l hj)) in
@@ -101,8 +101,8 @@ module _ (s u : List ℤ) (room : 16 ≤ length s) (wide : 16 ≤ length u) (fou
       ∙ line-at j 4 4 s i (omega arith) hi ∙ ap (λ (p : ℕ). getD s p (pos 0)) e
 
   -- THE FORWARD WHT UNDONE: number by number, of a list that may be longer than the block
-  pub lossless-at : (k : ℕ) → k < 16 → getD (passes (wht 2) (wht 0) (λ z. z) 4 u) k (pos 0) ≡ getD s k (pos 0)
-  lossless-at = place (λ k. getD (passes (wht 2) (wht 0) (λ z. z) 4 u) k (pos 0) ≡ getD s k (pos 0)) undone
+  pub lossless-at : (k : ℕ) → k < 16 → getD (rowsThenColumns (wht 2) (wht 0) (λ z. z) 4 u) k (pos 0) ≡ getD s k (pos 0)
+  lossless-at = place (λ k. getD (rowsThenColumns (wht 2) (wht 0) (λ z. z) 4 u) k (pos 0) ≡ getD s k (pos 0)) undone
 
 pub forward-length : (s : List ℤ) → length (forwardWht s) ≡ length s
 unfolding forwardWht
@@ -123,15 +123,15 @@ by-four dc ac d a k = go (eqb k 0) refl
     go false e = rw e a
 
 pub lossless : (dc : DcQuant) (ac : AcQuant) (s : List ℤ) → dc .0 ≡ pos 4 → ac .0 ≡ pos 4 → length s ≡ 16
-    → passes (wht 2) (wht 0) (λ z. z) 4 (dequantAll 0 dc ac (forwardWht s)) ≡ s
-unfolding passes dequantAll
+    → rowsThenColumns (wht 2) (wht 0) (λ z. z) 4 (dequantAll 0 dc ac (forwardWht s)) ≡ s
+unfolding rowsThenColumns dequantAll
 lossless dc ac s d a h =
     let f = forwardWht s in
     let n = forward-length s in
     let u = dequantAll 0 dc ac f in
     let l : length u ≡ length f = length-tabulate _ (length f) in
-    let m : length (passes (wht 2) (wht 0) (λ z. z) 4 u) ≡ length u = columns-length (wht 0) (λ z. z) 4 (rows (wht 2) 4 u) ∙ rows-length (wht 2) 4 u in
-    ext-getD (pos 0) (passes (wht 2) (wht 0) (λ z. z) 4 u) s (m ∙ l ∙ n)
+    let m : length (rowsThenColumns (wht 2) (wht 0) (λ z. z) 4 u) ≡ length u = columns-length (wht 0) (λ z. z) 4 (rows (wht 2) 4 u) ∙ rows-length (wht 2) 4 u in
+    ext-getD (pos 0) (rowsThenColumns (wht 2) (wht 0) (λ z. z) 4 u) s (m ∙ l ∙ n)
     (λ k q. lossless-at s u (omega arith) (omega arith)
     (λ j p. getD-tabulate _ (length f) j (pos 0) (omega arith) ∙ rw (by-four dc ac d a j) (times-four (getD f j (pos 0)))) k (omega arith))
 

@@ -1,0 +1,171 @@
+-- The drivers' table: what a passed test says, the answer from its parts, and that two results that meet the promise coincide.
+use mathlib.Core.Path.{_≡_, refl, sym, ap, _∙_}
+use mathlib.Core.Bool.{Bool, true, false, cond, not, _&&_, _||_}
+use mathlib.Core.List.{List}
+use Prim.Native.Nat.{ℕ, zero, suc, _+_, _-_, _*_, _^_, _≤_, _<_}
+use native.Mathlib.Nat.{mul-le-mul}
+use native.Mathlib.Omega.{arith}
+use borrow.Author.Tests.{ltb-true, ltb-false, le-ltb, eqb-true, eqb-false, eq-eqb, ne-eqb}
+use lib.Dec.{ltb, eqb}
+use lib.IntN.{ℤ, pos, natAbs}
+use lib.ListN.{length, getD}
+use lib.Pow.{pow-pos}
+use Rattle.whole.specs.Lists.{fill}
+use Rattle.whole.proofs.Within.{within-le}
+use Rattle.answers.specs.declared.Answer.{Answer}
+use Rattle.answers.specs.declared.Answer.the-variants.{Done, Coefficient}
+use Rattle.answers.specs.Answers.{number, lowest}
+use Rattle.answers.specs.Bad.{badLossless, badKind, anyBeyond}
+use Rattle.answers.specs.Limits.{COEF_LIMIT}
+use Rattle.answers.proofs.Numbers.{number-injective}
+use Rattle.answers.proofs.Passed.{none-within}
+use Rattle.blocks.specs.Block.{live, FirstWithin}
+use Rattle.blocks.specs.Inverse.{inverse2d, dcOnly, Possible}
+use Rattle.blocks.proofs.Inverse.{dc-only, filled}
+use Rattle.idct.specs.Driver.{Input, area, badSide, badRoom, shapeOf, answerOf, blockAfter, Driven, Checked, onlyDc}
+use Rattle.idct.proofs.Beyond.{first-beyond}
+
+never : {A : Type 0} → true ≡ false → A
+never h = absurd (let z : _≡_ {A = ℕ} 0 1 = cc in omega arith)
+
+-- ---- two results that meet the promise coincide
+pub coincide : (u : Input) (a b : Answer) (l m : List ℤ) → Driven u a l → Driven u b m → (a ≡ b) × (l ≡ m)
+coincide u a b l m p q = (number-injective a b (p .answered ∙ sym (q .answered)), p .written ∙ sym (q .written))
+
+-- ---- n is 2 to 5
+pub side-range : (n : ℕ) → badSide n ≡ false → (2 ≤ n) × (n ≤ 5)
+unfolding badSide
+side-range n h = go (ltb n 2) (ltb 5 n) refl refl
+  where
+    go : (a b : Bool) → ltb n 2 ≡ a → ltb 5 n ≡ b → (2 ≤ n) × (n ≤ 5)
+    go true b p q = never (rw (p) at h)
+    go false true p q = never (rw (p, q) at h)
+    go false false p q = (ltb-false n 2 p, ltb-false 5 n q)
+
+-- ---- lossless is 4 by 4; 32 by 32 has type 0
+small-side : (n : ℕ) → 2 ≤ n → eqb (n - 2) 0 ≡ true → n ≡ 2
+small-side n l e = omega (arith, eqb-true (n - 2) 0 e)
+
+lossless-is : (n : ℕ) (lossless : Bool) → 2 ≤ n → badLossless lossless (n - 2) ≡ false → lossless ≡ true → n ≡ 2
+unfolding badLossless
+lossless-is n true l h e = go (eqb (n - 2) 0) refl
+  where
+    go : (b : Bool) → eqb (n - 2) 0 ≡ b → n ≡ 2
+    go true p = small-side n l p
+    go false p = never (rw (p) at h)
+lossless-is n false l h e = never (sym e)
+
+large-is : (n type : ℕ) (lossless : Bool) → badKind lossless (n - 2) type ≡ false → lossless ≡ false → n ≡ 5 → type ≡ 0
+unfolding badKind
+large-is n type true h e f = never e
+large-is n type false h e f = go (ltb 3 type) (eqb type 0) refl refl
+  where
+    size : eqb (n - 2) 3 ≡ true
+    size = eq-eqb (n - 2) 3 (omega arith)
+
+    go : (a b : Bool) → ltb 3 type ≡ a → eqb type 0 ≡ b → type ≡ 0
+    go a true p q = eqb-true type 0 q
+    go true false p q = never (rw (p) at h)
+    go false false p q = never (rw (p, size, q) at h)
+
+-- ---- what the tests before the numbers leave
+cond-pass : (b : Bool) (k r : ℕ) → cond b (suc k) r ≡ 0 → (b ≡ false) × (r ≡ 0)
+cond-pass true k r h = absurd (omega arith)
+cond-pass false k r h = (refl, h)
+
+pub possible : (count n type : ℕ) (lossless : Bool) → shapeOf count n type lossless ≡ 0 → Possible n type lossless × (area n ≤ count)
+unfolding shapeOf
+possible count n type lossless h =
+    let a = cond-pass (badSide n) 1 _ h in
+    let b = cond-pass (badLossless lossless (n - 2)) 2 _ (a .1) in
+    let c = cond-pass (badKind lossless (n - 2) type) 3 _ (b .1) in
+    let d = cond-pass (badRoom count n) 5 _ (c .1) in
+    let r = side-range n (a .0) in (
+      record { least = r .0; most = r .1; large = large-is n type lossless (c .0); small = lossless-is n lossless (r .0) (b .0) },
+      ltb-false count (area n) (d .0),
+    )
+
+-- above 4 by 4 nothing is lossless
+pub lossy-above : (n type : ℕ) (lossless : Bool) → Possible n type lossless → 2 < n → lossless ≡ false
+lossy-above n type true h l = let e : n ≡ 2 = h .small refl in absurd (omega arith)
+lossy-above n type false h l = refl
+
+-- ---- the answer from its two parts
+shape : Input → ℕ
+shape u = shapeOf (length (u .block)) (u .n) (u .type) (u .lossless)
+
+beyond : Input → Bool
+beyond u = anyBeyond COEF_LIMIT (area (u .n)) (u .block)
+
+parts : (a b c d e : Bool) → _≡_ {A = ℕ} (cond a 2 (cond b 3 (cond c 4 (cond d 6 (cond e 9 0))))) (cond (eqb (cond a 2 (cond b 3 (cond c 4 (cond d 6 0)))) 0) (cond e 9 0) (cond a 2 (cond b 3 (cond c 4 (cond d 6 0)))))
+parts true b c d e = refl
+parts false true c d e = refl
+parts false false true d e = refl
+parts false false false true e = refl
+parts false false false false e = refl
+
+answer-is : (u : Input) → answerOf u ≡ cond (eqb (shape u) 0) (cond (beyond u) 9 0) (shape u)
+unfolding answerOf shape shapeOf beyond
+answer-is u =
+    parts (badSide (u .n)) (badLossless (u .lossless) (u .n - 2)) (badKind (u .lossless) (u .n - 2) (u .type)) (badRoom (length (u .block)) (u .n))
+    (anyBeyond COEF_LIMIT (area (u .n)) (u .block))
+
+-- a refusal before the numbers: the block stays
+pub refused : (u : Input) (a : Answer) → number a ≡ shapeOf (length (u .block)) (u .n) (u .type) (u .lossless) → (number a ≡ 0 → ⊥) → Driven u a (u .block)
+unfolding shape blockAfter
+refused u a e h =
+    let f : eqb (shape u) 0 ≡ false = ne-eqb (shape u) 0 (λ q. h (e ∙ q)) in
+    let g : answerOf u ≡ shape u = answer-is u ∙ rw f in
+    record { answered = e ∙ sym g; written = rw (g, f) }
+
+-- past them: by what is beyond
+by-beyond : (b : Bool) (l m : List ℤ) → cond b l m ≡ cond (eqb (cond b 9 0) 0) m l
+by-beyond true l m = refl
+by-beyond false l m = refl
+
+pub driven : (u : Input) (a : Answer) (after : List ℤ) → shapeOf (length (u .block)) (u .n) (u .type) (u .lossless) ≡ 0 → Checked u a after → Driven u a after
+unfolding shape beyond blockAfter
+driven u a after e h =
+    let f : eqb (shape u) 0 ≡ true = eq-eqb (shape u) 0 e in
+    let g : answerOf u ≡ cond (beyond u) 9 0 = answer-is u ∙ rw f in
+    record { answered = h .answered ∙ sym g; written = h .written ∙ rw g (by-beyond (beyond u) (u .block) (inverse2d (u .n) (u .type) (u .lossless) (u .block))) }
+
+-- ---- the limit passed or not
+pub over : (u : Input) → anyBeyond COEF_LIMIT (area (u .n)) (u .block) ≡ true → Checked u Coefficient (u .block)
+over u h = record { answered = rw h; written = rw h }
+
+pub under : (u : Input) (after : List ℤ) → anyBeyond COEF_LIMIT (area (u .n)) (u .block) ≡ false → after ≡ inverse2d (u .n) (u .type) (u .lossless) (u .block) → Checked u Done after
+under u after h e = record { answered = rw h; written = rw h e }
+
+-- a block within the limit is within what the transforms take
+pub in-range : (n : ℕ) (l : List ℤ) → anyBeyond COEF_LIMIT n l ≡ false → FirstWithin (2 ^ 31) n l
+in-range n l h = record { each = λ k q. within-le (omega arith) (none-within COEF_LIMIT n l h k q) }
+
+-- ---- the DC-only case
+pub record Alone (n type : ℕ) (lossless : Bool) (block : List ℤ) : Type 0 where
+  pub lossy : lossless ≡ false
+  pub zero-type : type ≡ 0
+  pub dead : live 1 (area n - 1) block ≡ false
+
+pub alone : (n type : ℕ) (lossless : Bool) (block : List ℤ) → onlyDc (area n) type lossless block ≡ true → Alone n type lossless block
+unfolding onlyDc
+alone n type lossless block h = go lossless (eqb type 0) (live 1 (area n - 1) block) refl refl refl
+  where
+    go : (a b c : Bool) → lossless ≡ a → eqb type 0 ≡ b → live 1 (area n - 1) block ≡ c → Alone n type lossless block
+    go true b c p q r = never (sym (rw (p) at h))
+    go false false c p q r = never (sym (rw (p, q) at h))
+    go false true true p q r = never (sym (rw (p, q, r) at h))
+    go false true false p q r = record { lossy = p; zero-type = eqb-true type 0 q; dead = r }
+
+pub area-some : (n : ℕ) → 1 ≤ area n
+area-some n = mul-le-mul (pow-pos n) (pow-pos n)
+
+module _ (n type : ℕ) (lossless : Bool) (block : List ℤ) (l : 2 ≤ n) (h : n ≤ 5) (room : area n ≤ length block) (dc : onlyDc (area n) type lossless block ≡ true) where
+  pub dc-beyond : anyBeyond COEF_LIMIT (area n) block ≡ ltb COEF_LIMIT (natAbs (getD block 0 (pos 0)))
+  dc-beyond = first-beyond COEF_LIMIT (area n) block (area-some n) (alone n type lossless block dc .dead)
+
+  pub dc-written : {after : List ℤ} → after ≡ fill (area n) (λ k. dcOnly n (getD block 0 (pos 0))) block → after ≡ inverse2d n type lossless block
+  dc-written e =
+      let a = alone n type lossless block dc in
+      e ∙ filled (2 ^ n) (dcOnly n (getD block 0 (pos 0))) block room ∙ sym (dc-only n l h block room (a .dead))
+      ∙ rw (a .lossy, a .zero-type)

@@ -1,0 +1,67 @@
+-- The promise of the two-dimensional drivers: their answer, and the block afterwards.
+use mathlib.Core.Path.{_≡_}
+use mathlib.Core.Bool.{Bool, cond, not, _&&_, _||_}
+use mathlib.Core.List.{List, [], _∷_}
+use Prim.Native.Nat.{ℕ, _-_, _*_, _^_}
+use lib.Dec.{ltb, eqb}
+use lib.IntN.{ℤ}
+use lib.ListN.{length}
+use Rattle.answers.specs.declared.Answer.{Answer}
+use Rattle.answers.specs.Answers.{number, lowest}
+use Rattle.answers.specs.Limits.{COEF_LIMIT}
+use Rattle.answers.specs.Bad.{badLossless, badKind, anyBeyond}
+use Rattle.blocks.specs.Block.{live}
+use Rattle.blocks.specs.Inverse.{inverse2d}
+
+pub record Input : Type 0 where
+  pub block : List ℤ
+  pub n : ℕ
+  pub type : ℕ
+  pub lossless : Bool
+
+-- numbers of the block: n0 × n0, n0 = 2^n
+abbrev pub area : ℕ → ℕ
+area n = 2 ^ n * 2 ^ n
+
+-- 2: n outside 2 to 5
+unfoldable pub badSide : ℕ → Bool
+badSide n = ltb n 2 || ltb 5 n
+
+-- 6: fewer numbers than the block has
+abbrev pub badRoom : ℕ → ℕ → Bool
+badRoom count n = ltb count (area n)
+
+-- 2, 3, 4 and 6: the tests before any number of the block is read; the size number is n − 2
+unfoldable pub shapeOf : ℕ → ℕ → ℕ → Bool → ℕ
+shapeOf count n type lossless =
+    lowest ((2, badSide n) ∷ (3, badLossless lossless (n - 2)) ∷ (4, badKind lossless (n - 2) type) ∷ (6, badRoom count n) ∷ [])
+
+-- the answer: 9 where a number of the block is beyond its limit
+unfoldable pub answerOf : Input → ℕ
+answerOf u =
+    lowest
+    (
+    (2, badSide (u .n))
+    ∷ (3, badLossless (u .lossless) (u .n - 2))
+    ∷ (4, badKind (u .lossless) (u .n - 2) (u .type))
+    ∷ (6, badRoom (length (u .block)) (u .n))
+    ∷ (9, anyBeyond COEF_LIMIT (area (u .n)) (u .block))
+    ∷ []
+    )
+
+-- the block afterwards: the residual, and as it was under a refusal
+unfoldable pub blockAfter : Input → List ℤ
+blockAfter u = cond (eqb (answerOf u) 0) (inverse2d (u .n) (u .type) (u .lossless) (u .block)) (u .block)
+
+pub record Driven (u : Input) (answer : Answer) (after : List ℤ) : Type 0 where
+  pub answered : number answer ≡ answerOf u
+  pub written : after ≡ blockAfter u
+
+-- the same of a block of a size and type that there are, and with room: 0 or 9
+pub record Checked (u : Input) (answer : Answer) (after : List ℤ) : Type 0 where
+  pub answered : number answer ≡ cond (anyBeyond COEF_LIMIT (area (u .n)) (u .block)) 9 0
+  pub written : after ≡ cond (anyBeyond COEF_LIMIT (area (u .n)) (u .block)) (u .block) (inverse2d (u .n) (u .type) (u .lossless) (u .block))
+
+-- the type is 0, and of `count` numbers only the first is live
+unfoldable pub onlyDc : ℕ → ℕ → Bool → List ℤ → Bool
+onlyDc count type lossless block = not lossless && (eqb type 0 && not (live 1 (count - 1) block))

@@ -1,0 +1,121 @@
+use answers::Answer;
+ghost use mathlib.Core.Path.{_≡_};
+ghost use mathlib.Core.Bool.{_||_};
+ghost use Prim.Native.Nat.{_*_, _^_, _≤_};
+ghost use lib.Dec.{eqb};
+ghost use lib.ListN.{length};
+ghost use Rattle.answers.specs.Answers.{number};
+ghost use Rattle.blocks.specs.Inverse.{bits};
+ghost use Rattle.idct.specs.Driver.{badSide, shapeOf, Driven};
+
+// The drivers' engines: as the specification goes, and the fast one.
+pub mod fast;
+mod reference;
+
+// n is outside 2 to 5.
+fn bad_side(n: u32) -> bool
+    ensures { λ r. ⌜ r ≡ badSide n ⌝ }
+{
+    if n < 2 {
+        return true;
+    }
+    5 < n
+}
+
+// Numbers in a line.
+fn side(n: u32) -> usize
+    requires { ⌜ (2 ≤ n) × (n ≤ 5) ⌝ }
+    ensures { λ r. ⌜ (r ≡ 2 ^ n) × (r ≤ 32) ⌝ }
+{
+    match n {
+        2 => 4,
+        3 => 8,
+        4 => 16,
+        _ => 32,
+    }
+}
+
+// Bits that the columns are rounded by.
+fn rounding_bits(n: u32) -> u32
+    requires { ⌜ (2 ≤ n) × (n ≤ 5) ⌝ }
+    ensures { λ r. ⌜ (r ≡ bits n) × (1 ≤ r) × (r ≤ 30) ⌝ }
+{
+    match n {
+        2 => 4,
+        3 => 5,
+        _ => 6,
+    }
+}
+
+// Types 0 and 1 have DCT rows.
+fn row_dct(tx_type: u8) -> bool
+    ensures { λ r. ⌜ r ≡ eqb «tx_type» 0 || eqb «tx_type» 1 ⌝ }
+{
+    if tx_type == 0 {
+        return true;
+    }
+    tx_type == 1
+}
+
+// Types 0 and 2 have DCT columns.
+fn column_dct(tx_type: u8) -> bool
+    ensures { λ r. ⌜ r ≡ eqb «tx_type» 0 || eqb «tx_type» 2 ⌝ }
+{
+    if tx_type == 0 {
+        return true;
+    }
+    tx_type == 2
+}
+
+// The answer as far as it needs no number of the block, of which there are `count`.
+fn shape(count: usize, n: u32, tx_type: u8, lossless: bool) -> Answer
+    ensures { λ r. ⌜ number r ≡ shapeOf count n «tx_type» lossless ⌝ }
+{
+    if bad_side(n) {
+        return Answer::Size;
+    }
+    if answers::bad_lossless(lossless, n - 2) {
+        return Answer::LosslessSize;
+    }
+    if answers::bad_kind(lossless, n - 2, tx_type) {
+        return Answer::Kind;
+    }
+    let n0 = side(n);
+    if count < n0 * n0 {
+        return Answer::Length;
+    }
+    Answer::Done
+}
+
+// The residual of the block, in its place, by the recursive transforms.
+pub fn inverse_transform_2d_reference(
+    block: &mut [i64],
+    n: u32,
+    tx_type: u8,
+    lossless: bool,
+) -> Answer
+    ensures { λ r. ⌜ Driven (record { block = now (block .entry); n = n; type = «tx_type»; lossless = lossless }) r (now (block .exit)) ⌝ }
+{
+    let a = shape(block.len(), n, tx_type, lossless);
+    if answers::code(a) != 0 {
+        return a;
+    }
+    let n0 = side(n);
+    if answers::any_beyond(block, n0 * n0, answers::COEF_LIMIT) {
+        return Answer::Coefficient;
+    }
+    reference::rows(block, n, tx_type, lossless);
+    reference::columns(block, n, tx_type, lossless);
+    Answer::Done
+}
+
+// The residual of the block, in its place, by the fast engine.
+pub fn inverse_transform_2d(block: &mut [i64], n: u32, tx_type: u8, lossless: bool) -> Answer
+    ensures { λ r. ⌜ Driven (record { block = now (block .entry); n = n; type = «tx_type»; lossless = lossless }) r (now (block .exit)) ⌝ }
+{
+    let a = shape(block.len(), n, tx_type, lossless);
+    if answers::code(a) != 0 {
+        return a;
+    }
+    fast::checked(block, n, tx_type, lossless)
+}

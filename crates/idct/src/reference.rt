@@ -1,0 +1,75 @@
+ghost use mathlib.Core.Path.{_≡_};
+ghost use mathlib.Core.Bool.{Bool, false, cond};
+ghost use Prim.Native.Nat.{ℕ, _+_, _*_, _^_, _≤_, _<_};
+ghost use lib.ListN.{length};
+ghost use Rattle.blocks.specs.Block.{rows, columns, put, FirstWithin};
+ghost use Rattle.blocks.specs.Inverse.{Wht, apply, lossy, rowPass, columnPass, bits, rounding, Possible, Safe};
+
+// DCT of 2^n numbers, or ADST.
+fn dct_or_adst(t: &mut [i64; 32], n: u32, use_dct: bool)
+    requires { ⌜ (2 ≤ n) × (n ≤ 5) × («use_dct» ≡ false → n ≤ 4) × Safe (lossy «use_dct») n (now t) ⌝ }
+    ensures { λ _. ⌜ now (t .exit) ≡ apply (lossy «use_dct») n (now (t .entry)) ⌝ }
+{
+    if use_dct {
+        dct::idct_permute(t, n);
+        let r = dct::inverse_dct(*t, n);
+        *t = r;
+    } else {
+        adst::inverse_adst(t, n);
+    }
+}
+
+// The transform of one line; the WHT at `shift` if lossless.
+fn apply_1d(t: &mut [i64; 32], n: u32, use_dct: bool, lossless: bool, shift: u32)
+    requires { ⌜ (2 ≤ n) × (n ≤ 5) × (lossless ≡ false → «use_dct» ≡ false → n ≤ 4) × («shift» ≤ 2) × Safe (cond lossless (Wht «shift») (lossy «use_dct»)) n (now t) ⌝ }
+    ensures { λ _. ⌜ now (t .exit) ≡ apply (cond lossless (Wht «shift») (lossy «use_dct»)) n (now (t .entry)) ⌝ }
+{
+    if lossless {
+        wht::inverse_wht(t, shift);
+    } else {
+        dct_or_adst(t, n, use_dct);
+    }
+}
+
+// All rows.
+pub fn rows(block: &mut [i64], n: u32, tx_type: u8, lossless: bool)
+    requires { ⌜ Possible n «tx_type» lossless × (2 ^ n * 2 ^ n ≤ length (now block)) × FirstWithin (2 ^ 31) (2 ^ n * 2 ^ n) (now block) ⌝ }
+    ensures { λ _. ⌜ now (block .exit) ≡ rows (apply (rowPass «tx_type» lossless) n) (2 ^ n) (now (block .entry)) ⌝ }
+{
+    let n0 = crate::side(n);
+    let row_dct = crate::row_dct(tx_type);
+    let mut t = [0i64; 32];
+    for i in 0..n0 {
+        blocks::load(&mut t, block, i * n0, 1, n0);
+        apply_1d(&mut t, n, row_dct, lossless, 2);
+        blocks::store(block, &t, i * n0, 1, n0);
+    }
+}
+
+// Column j from t: rounded, unless lossless.
+fn store_column(block: &mut [i64], t: &[i64; 32], j: usize, n: u32, lossless: bool)
+    requires { ⌜ (2 ≤ n) × (n ≤ 5) × ((k : ℕ) → k < 2 ^ n → j + k * 2 ^ n < length (now block)) × FirstWithin (2 ^ 62) (2 ^ n) (now t) ⌝ }
+    ensures { λ _. ⌜ now (block .exit) ≡ put (rounding n lossless) j (2 ^ n) (2 ^ n) (now (t .entry)) (now (block .entry)) ⌝ }
+{
+    let n0 = crate::side(n);
+    if lossless {
+        blocks::store(block, t, j, n0, n0);
+    } else {
+        blocks::store_rounded(block, t, j, n0, n0, crate::rounding_bits(n));
+    }
+}
+
+// All columns.
+pub fn columns(block: &mut [i64], n: u32, tx_type: u8, lossless: bool)
+    requires { ⌜ Possible n «tx_type» lossless × (2 ^ n * 2 ^ n ≤ length (now block)) × FirstWithin (2 ^ 37) (2 ^ n * 2 ^ n) (now block) ⌝ }
+    ensures { λ _. ⌜ now (block .exit) ≡ columns (apply (columnPass «tx_type» lossless) n) (rounding n lossless) (2 ^ n) (now (block .entry)) ⌝ }
+{
+    let n0 = crate::side(n);
+    let col_dct = crate::column_dct(tx_type);
+    let mut t = [0i64; 32];
+    for j in 0..n0 {
+        blocks::load(&mut t, block, j, n0, n0);
+        apply_1d(&mut t, n, col_dct, lossless, 0);
+        store_column(block, &t, j, n, lossless);
+    }
+}
