@@ -85,10 +85,15 @@ possible count n type lossless h =
       ltb-false count (area n) (d .0),
     )
 
--- above 4 by 4 nothing is lossless
-pub lossy-above : (n type : ℕ) (lossless : Bool) → Possible n type lossless → 2 < n → lossless ≡ false
-lossy-above n type true h l = let e : n ≡ 2 = h .small refl in absurd (omega arith)
-lossy-above n type false h l = refl
+-- the type is not looked at when lossless
+pub any-type : (n type : ℕ) (s : List ℤ) → inverse2d n 0 true s ≡ inverse2d n type true s
+unfolding inverse2d
+any-type n type s = refl
+
+pub any-checked : (n type : ℕ) (s : List ℤ) {a : Answer} {after : List ℤ} → Checked (record { block = s; n = n; type = 0; lossless = true }) a after
+    → Checked (record { block = s; n = n; type = type; lossless = true }) a after
+unfolding inverse2d
+any-checked n type s h = record { answered = h .answered; written = h .written }
 
 -- ---- the answer from its two parts
 shape : Input → ℕ

@@ -1,45 +1,45 @@
--- The limit of a coefficient, as the code tests it: by its two sides, by a count, and by place 0 alone where the rest is 0.
+-- The limit of a coefficient, as the code tests it: all magnitudes or-ed together, and place 0 alone where the rest is 0.
 use mathlib.Core.Path.{_≡_, refl, sym, ap, _∙_}
-use mathlib.Core.Bool.{Bool, true, false, not, _||_}
+use mathlib.Core.Bool.{Bool, true, false, _||_}
 use mathlib.Core.List.{List}
+use mathlib.Core.Logic.{⊎-elim}
 use Prim.Native.Nat.{ℕ, zero, suc, _+_, _-_, _≤_, _<_}
+use native.Mathlib.Nat.{eq-or-lt-of-le}
 use native.Mathlib.Omega.{arith}
-use borrow.Author.Tests.{ltb-true, ltb-false, lt-ltb, le-ltb, ne-eqb}
-use lib.Dec.{ltb, eqb}
-use lib.IntN.{ℤ, pos, negsuc, natAbs}
+use borrow.Author.Tests.{le-ltb}
+use lib.Dec.{ltb}
+use lib.IntN.{ℤ, pos, natAbs}
 use lib.ListN.{getD}
-use lib.Signed.{ltZ}
+use lib.Bits.{bitOr, or-add-and, and-le-l, and-le-r}
 use Rattle.whole.specs.Tests.{anyBelow}
-use Rattle.whole.proofs.Tests.{any-hit}
 use Rattle.answers.specs.Bad.{anyBeyond}
 use Rattle.blocks.specs.Block.{live}
-use Rattle.blocks.proofs.Live.{any-next, dead-at}
+use Rattle.blocks.proofs.Live.{dead-at}
 
-never : {A : Type 0} → true ≡ false → A
-never h = absurd (let z : _≡_ {A = ℕ} 0 1 = cc in omega arith)
+-- ---- all magnitudes or-ed together
+or-left : (a b : ℕ) → a ≤ bitOr a b
+or-left a b = omega (arith, or-add-and a b, and-le-r a b)
 
--- ---- one number
-pub below-limit : (m : ℕ) (x : ℤ) → ltZ x (negsuc m) ≡ true → true ≡ ltb (suc m) (natAbs x)
-below-limit m (pos a) h = never (sym h)
-below-limit m (negsuc a) h = sym (lt-ltb (suc m) (suc a) (omega (arith, ltb-true m a h)))
+or-right : (a b : ℕ) → b ≤ bitOr a b
+or-right a b = omega (arith, or-add-and a b, and-le-l a b)
 
-pub above-limit : (m : ℕ) (x : ℤ) → ltZ x (negsuc m) ≡ false → ltZ (pos (suc m)) x ≡ ltb (suc m) (natAbs x)
-above-limit m (pos a) h = refl
-above-limit m (negsuc a) h = sym (le-ltb (suc m) (suc a) (omega (arith, ltb-false m a h)))
+-- one more
+pub or-more : (l : List ℤ) (i all : ℕ) {m : ℕ} → m ≡ natAbs (getD l i (pos 0)) → ((k : ℕ) → k < i → natAbs (getD l k (pos 0)) ≤ all)
+    → (k : ℕ) → k < i + 1 → natAbs (getD l k (pos 0)) ≤ bitOr all m
+or-more l i all {m} e f k h = ⊎-elim
+    (λ (q : k ≡ i). rw (q, ← e) (or-right all m))
+    (λ (q : k < i). omega (arith, f k q, or-left all m))
+    (eq-or-lt-of-le (omega arith))
 
--- ---- a count of those beyond
-module _ (m : ℕ) (l : List ℤ) where
-  pub count-none : not (eqb 0 0) ≡ anyBeyond m 0 l
-  unfolding anyBeyond anyBelow
-  count-none = refl
+-- where none of them is above m, none is found
+none : (p : ℕ → Bool) (n : ℕ) → ((k : ℕ) → k < n → p k ≡ false) → anyBelow p n ≡ false
+unfolding anyBelow
+none p zero h = refl
+none p (suc n) h = rw (h n (omega arith)) (none p n (λ k l. h k (omega arith)))
 
-  pub count-hit : (k i : ℕ) → ltb m (natAbs (getD l i (pos 0))) ≡ true → not (eqb (k + 1) 0) ≡ anyBeyond m (i + 1) l
-  unfolding anyBeyond
-  count-hit k i h = rw (ne-eqb (k + 1) 0 (λ e. omega arith)) (sym (any-hit (λ k. ltb m (natAbs (getD l k (pos 0)))) i (i + 1) (omega arith) h))
-
-  pub count-pass : (k i : ℕ) → not (eqb k 0) ≡ anyBeyond m i l → ltb m (natAbs (getD l i (pos 0))) ≡ false → not (eqb k 0) ≡ anyBeyond m (i + 1) l
-  unfolding anyBeyond
-  count-pass k i e h = any-next (λ k. ltb m (natAbs (getD l k (pos 0)))) i e h
+pub none-beyond : (m n all : ℕ) (l : List ℤ) → all ≤ m → ((k : ℕ) → k < n → natAbs (getD l k (pos 0)) ≤ all) → false ≡ anyBeyond m n l
+unfolding anyBeyond
+none-beyond m n all l h f = sym (none (λ k. ltb m (natAbs (getD l k (pos 0)))) n (λ k q. le-ltb m (natAbs (getD l k (pos 0))) (omega (arith, f k q))))
 
 -- ---- place 0 alone
 any-first : (p : ℕ → Bool) (n : ℕ) → 0 < n → ((k : ℕ) → 0 < k → k < n → p k ≡ false) → anyBelow p n ≡ p 0

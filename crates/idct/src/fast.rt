@@ -160,9 +160,11 @@ fn wht_rows(block: &mut [i64])
 {
     let mut t = [0i64; 32];
     for i in 0..4usize {
-        blocks::load(&mut t, block, i * 4, 1, 4);
-        wht::inverse_wht(&mut t, 2);
-        blocks::store(block, &t, i * 4, 1, 4);
+        if blocks::any_live(block, i * 4, 4) {
+            blocks::load(&mut t, block, i * 4, 1, 4);
+            wht::inverse_wht(&mut t, 2);
+            blocks::store(block, &t, i * 4, 1, 4);
+        }
     }
 }
 
@@ -179,17 +181,20 @@ fn wht_columns(block: &mut [i64])
 }
 
 // Rows, then columns.
-fn passes2(block: &mut [i64], tx_type: u8, lossless: bool)
+fn wht_passes(block: &mut [i64])
     requires { ⌜ (16 ≤ length (now block)) × FirstWithin (2 ^ 31) 16 (now block) ⌝ }
-    ensures { λ _. ⌜ now (block .exit) ≡ inverse2d 2 «tx_type» lossless (now (block .entry)) ⌝ }
+    ensures { λ _. ⌜ now (block .exit) ≡ inverse2d 2 0 true (now (block .entry)) ⌝ }
 {
-    if lossless {
-        wht_rows(block);
-        wht_columns(block);
-    } else {
-        rows2(block, crate::row_dct(tx_type));
-        columns2(block, crate::column_dct(tx_type));
-    }
+    wht_rows(block);
+    wht_columns(block);
+}
+
+fn passes2(block: &mut [i64], tx_type: u8)
+    requires { ⌜ (16 ≤ length (now block)) × FirstWithin (2 ^ 31) 16 (now block) ⌝ }
+    ensures { λ _. ⌜ now (block .exit) ≡ inverse2d 2 «tx_type» false (now (block .entry)) ⌝ }
+{
+    rows2(block, crate::row_dct(tx_type));
+    columns2(block, crate::column_dct(tx_type));
 }
 
 fn passes3(block: &mut [i64], tx_type: u8)
@@ -221,38 +226,38 @@ pub fn both_passes(block: &mut [i64], n: u32, tx_type: u8, lossless: bool)
     requires { ⌜ Possible n «tx_type» lossless × (2 ^ n * 2 ^ n ≤ length (now block)) × FirstWithin (2 ^ 31) (2 ^ n * 2 ^ n) (now block) ⌝ }
     ensures { λ _. ⌜ now (block .exit) ≡ inverse2d n «tx_type» lossless (now (block .entry)) ⌝ }
 {
+    if lossless {
+        wht_passes(block);
+        return;
+    }
     match n {
-        2 => passes2(block, tx_type, lossless),
+        2 => passes2(block, tx_type),
         3 => passes3(block, tx_type),
         4 => passes4(block, tx_type),
         _ => passes5(block),
     }
 }
 
-const LIMIT: i64 = answers::COEF_LIMIT as i64;
-
 // Beyond the limit of a coefficient.
 fn is_beyond(x: i64) -> bool
     ensures { λ r. ⌜ r ≡ ltb COEF_LIMIT (natAbs x) ⌝ }
 {
-    if x < -LIMIT {
-        return true;
-    }
-    LIMIT < x
+    answers::COEF_LIMIT < answers::magnitude(x)
 }
 
-// Whether some of the first `count` numbers is beyond the limit; a count and no early return, for speed.
+// Whether some of the first `count` numbers is beyond the limit. No magnitude is above all of them or-ed together, and that is quick.
 fn some_beyond(block: &[i64], count: usize) -> bool
     requires { ⌜ count ≤ length (now block) ⌝ }
     ensures { λ r. ⌜ r ≡ anyBeyond COEF_LIMIT count (now (block .entry)) ⌝ }
 {
-    let mut k = 0usize;
+    let mut all = 0u64;
     for i in 0..count {
-        if is_beyond(block[i]) {
-            k += 1;
-        }
+        all = all | answers::magnitude(block[i]);
     }
-    k != 0
+    if all <= answers::COEF_LIMIT {
+        return false;
+    }
+    answers::any_beyond(block, count, answers::COEF_LIMIT)
 }
 
 // Whether the type is 0 and only place 0 of the `count` numbers is live.
@@ -312,11 +317,22 @@ pub fn inverse_fast(block: &mut [i64], n: u32, tx_type: u8, lossless: bool)
 
 // With the limit checked first, on what is live: place 0 alone, or the block.
 
-fn checked2(block: &mut [i64], tx_type: u8, lossless: bool) -> Answer
+fn wht_checked(block: &mut [i64]) -> Answer
     requires { ⌜ 16 ≤ length (now block) ⌝ }
-    ensures { λ r. ⌜ Checked (record { block = now (block .entry); n = 2; type = «tx_type»; lossless = lossless }) r (now (block .exit)) ⌝ }
+    ensures { λ r. ⌜ Checked (record { block = now (block .entry); n = 2; type = 0; lossless = true }) r (now (block .exit)) ⌝ }
 {
-    if only_dc(block, 16, tx_type, lossless) {
+    if some_beyond(block, 16) {
+        return Answer::Coefficient;
+    }
+    wht_passes(block);
+    Answer::Done
+}
+
+fn checked2(block: &mut [i64], tx_type: u8) -> Answer
+    requires { ⌜ 16 ≤ length (now block) ⌝ }
+    ensures { λ r. ⌜ Checked (record { block = now (block .entry); n = 2; type = «tx_type»; lossless = false }) r (now (block .exit)) ⌝ }
+{
+    if only_dc(block, 16, tx_type, false) {
         if is_beyond(block[0]) {
             return Answer::Coefficient;
         }
@@ -326,7 +342,7 @@ fn checked2(block: &mut [i64], tx_type: u8, lossless: bool) -> Answer
     if some_beyond(block, 16) {
         return Answer::Coefficient;
     }
-    passes2(block, tx_type, lossless);
+    passes2(block, tx_type);
     Answer::Done
 }
 
@@ -389,8 +405,11 @@ pub fn checked(block: &mut [i64], n: u32, tx_type: u8, lossless: bool) -> Answer
     requires { ⌜ Possible n «tx_type» lossless × (2 ^ n * 2 ^ n ≤ length (now block)) ⌝ }
     ensures { λ r. ⌜ Checked (record { block = now (block .entry); n = n; type = «tx_type»; lossless = lossless }) r (now (block .exit)) ⌝ }
 {
+    if lossless {
+        return wht_checked(block);
+    }
     match n {
-        2 => checked2(block, tx_type, lossless),
+        2 => checked2(block, tx_type),
         3 => checked3(block, tx_type),
         4 => checked4(block, tx_type),
         _ => checked5(block),

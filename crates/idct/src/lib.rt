@@ -113,9 +113,9 @@ pub fn inverse_transform_2d_reference(
 pub fn inverse_transform_2d(block: &mut [i64], n: u32, tx_type: u8, lossless: bool) -> Answer
     ensures { λ r. ⌜ Driven (record { block = now (block .entry); n = n; type = «tx_type»; lossless = lossless }) r (now (block .exit)) ⌝ }
 {
-    let a = shape(block.len(), n, tx_type, lossless);
-    if answers::code(a) != 0 {
-        return a;
+    let answer = shape(block.len(), n, tx_type, lossless);
+    if answers::code(answer) != 0 {
+        return answer;
     }
     fast::checked(block, n, tx_type, lossless)
 }

@@ -1,13 +1,13 @@
 -- Laws of a run: nothing after the end, one record more, what is done and what is left, how far the numbers go.
 use mathlib.Core.Path.{_≡_, refl, sym, ap, _∙_}
-use mathlib.Core.Bool.{Bool, true, false, cond, not}
+use mathlib.Core.Bool.{Bool, true, false, cond}
 use mathlib.Core.List.{List, [], _∷_, _++_, append-assoc, append-nil}
 use Prim.Native.Nat.{ℕ, zero, suc, _+_, _*_, _-_, _≤_, _<_}
 use native.Mathlib.Nat as N
 use native.Mathlib.Numerals.{add-one}
 use native.Mathlib.Omega.{arith}
-use borrow.Author.Tests.{le-leb, lt-leb, not-true, not-false, eqb-true, ltb-false}
-use lib.Dec.{leb, ltb, eqb}
+use borrow.Author.Tests.{le-leb, lt-leb, not-false, eqb-true, ltb-false}
+use lib.Dec.{ltb, eqb}
 use lib.ListN.{length, take, drop, set, length-set, take-append-drop}
 use lib.Seq.{take-suc-set, length-take-le, drop-set-lt, drop-drop}
 use Rattle.answers.proofs.Numbers.{pass, rest}

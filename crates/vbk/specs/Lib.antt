@@ -1,1 +1,3 @@
 pub mod Replay
+pub mod Filled
+pub mod Promises

@@ -1,1 +1,276 @@
 // A run over a VBK file.
+ghost use mathlib.Core.Path.{_≡_};
+ghost use Prim.Native.Nat.{_+_, _*_, _≤_, _<_};
+ghost use lib.IntN.{pos};
+ghost use lib.ListN.{length, replicate};
+ghost use Rattle.answers.specs.Answers.{number};
+ghost use Rattle.vbk_read.specs.Header.{areaOf, headerAnswer, fieldsOf, noFields};
+ghost use Rattle.vbk_read.specs.Records.{sizeAt, headAt, nextAt};
+ghost use Rattle.answers.specs.Limits.{FILE_LIMIT};
+ghost use Rattle.vbk.specs.Replay.{RECORD_LIMIT, touchedBy, records, Stepped, Ran};
+ghost use Rattle.vbk.specs.Filled.{reconstruction, reconstructAt};
+ghost use Rattle.vbk.specs.Promises.{runOf, Replayed, outcomeOf, Printed};
+ghost use Rattle.vbk_text.specs.Text.{text};
+ghost use Rattle.vbk_text.specs.Writing.{Room, Put};
+use answers::Answer;
+use plane::Plane;
+use quant::AcQuant;
+use quant::DcQuant;
+use vbk_read::Cursor;
+use vbk_read::Fields;
+use vbk_read::Head;
+
+// No file has more records: the first one stands at byte 12 or later, and all but the last take 75 bytes or more.
+pub const RECORD_LIMIT: usize = 874;
+
+// One record's answer and touched count, and the place to read on from.
+struct Step {
+    answer: u8,
+    touched: usize,
+    next: usize,
+}
+
+fn number8(a: Answer) -> u8
+    ensures { λ r. ⌜ r ≡ number a ⌝ }
+{
+    answers::code(a) as u8
+}
+
+// The touched count: n0² for an answer 0.
+fn touched_by(answer: u8, size: u8) -> usize
+    requires { ⌜ size ≤ 3 ⌝ }
+    ensures { λ r. ⌜ r ≡ touchedBy answer size ⌝ }
+{
+    if answer == 0 {
+        return vbk_read::token_count(size);
+    }
+    0
+}
+
+fn quantizer(q: u16) -> i32
+    ensures { λ r. ⌜ r ≡ pos q ⌝ }
+{
+    q as i32
+}
+
+fn zeros() -> [i64; 1024]
+    ensures { λ r. ⌜ r ≡ replicate 1024 (pos 0) ⌝ }
+{
+    [0i64; 1024]
+}
+
+// The record at a place, whole and with a good lossless byte: its tokens are read, and reconstruction answers.
+fn rebuild(file: &[u8], at: usize, head: Head, fields: Fields, samples: &mut [u16]) -> Answer
+    requires { ⌜ (sizeAt (now file) at ≤ 3) × (nextAt (now file) at ≤ length (now file)) × (head ≡ headAt (now file) at) × (fields ≡ fieldsOf (now file)) ⌝ }
+    ensures { λ r. ⌜ (number r ≡ reconstructAt (now (file .entry)) at (now (samples .entry)) .answer) × (now (samples .exit) ≡ reconstructAt (now (file .entry)) at (now (samples .entry)) .plane) ⌝ }
+{
+    let n = vbk_read::token_count(head.size);
+    let mut tokens = zeros();
+    let start = head.next;
+    start.read_tokens(file, n, &mut tokens);
+    reconstruct::reconstruct_block(
+        samples,
+        Plane {
+            width: fields.width as usize,
+            height: fields.height as usize,
+        },
+        head.x as usize,
+        head.y as usize,
+        head.size as u32,
+        &tokens[..n],
+        DcQuant(quantizer(head.dc)),
+        AcQuant(quantizer(head.ac)),
+        head.kind,
+        head.lossless == 1,
+        fields.depth as u32,
+    )
+}
+
+// One record: its own checks, then reconstruction.
+fn one_record(file: &[u8], at: usize, fields: Fields, samples: &mut [u16]) -> Step
+    requires { ⌜ fields ≡ fieldsOf (now file) ⌝ }
+    ensures { λ r. ⌜ Stepped reconstruction (now (file .entry)) at (now (samples .entry)) (r .answer) (r .touched) (r .next) (now (samples .exit)) ⌝ }
+{
+    let r = vbk_read::next_record(file, at);
+    let checks = r.answer;
+    let own = number8(checks);
+    if r.ends {
+        return Step {
+            answer: own,
+            touched: 0,
+            next: file.len(),
+        };
+    }
+    let next = r.next.at;
+    if own != 0 {
+        return Step {
+            answer: own,
+            touched: 0,
+            next,
+        };
+    }
+    let head = r.head;
+    let answer = number8(rebuild(file, at, head, fields, samples));
+    Step {
+        answer,
+        touched: touched_by(answer, head.size),
+        next,
+    }
+}
+
+// How many records were read, and the touched count.
+struct Tally {
+    count: usize,
+    touched: usize,
+}
+
+// The records from a place on, until the reading ends.
+fn read_records(
+    file: &[u8],
+    from: usize,
+    fields: Fields,
+    samples: &mut [u16],
+    answers: &mut [u8],
+) -> Tally
+    requires { ⌜ (fields ≡ fieldsOf (now file)) × (length (now file) ≤ FILE_LIMIT) × (12 ≤ from) × (from ≤ length (now file)) × (RECORD_LIMIT ≤ length (now answers)) ⌝ }
+    ensures { λ r. ⌜ Ran (records reconstruction (now (file .entry)) (length (now (file .entry))) from (now (samples .entry))) (r .count) (r .touched) (now (answers .entry)) (now (answers .exit)) (now (samples .exit)) ⌝ }
+{
+    let mut at = from;
+    let mut count = 0;
+    let mut touched = 0;
+    while at < file.len() {
+        let step = one_record(file, at, fields, samples);
+        answers[count] = step.answer;
+        count += 1;
+        touched += step.touched;
+        at = step.next;
+    }
+    Tally { count, touched }
+}
+
+// The plane as the file has it, then the records.
+fn play(file: &[u8], fields: Fields, samples: &mut [u16], answers: &mut [u8]) -> Tally
+    requires { ⌜ (headerAnswer (now file) ≡ 0) × (fields ≡ fieldsOf (now file)) × (length (now samples) ≡ areaOf (now file)) × (RECORD_LIMIT ≤ length (now answers)) ⌝ }
+    ensures { λ r. ⌜ Ran (runOf (now (file .entry))) (r .count) (r .touched) (now (answers .entry)) (now (answers .exit)) (now (samples .exit)) ⌝ }
+{
+    let n = samples.len();
+    let start = fields.next;
+    let first = start.read_samples(file, n, samples);
+    let from = first.at;
+    read_records(file, from, fields, samples, answers)
+}
+
+// A run's outcome: the answer and the header, how many records were read, and the touched count.
+pub struct Run {
+    pub answer: Answer,
+    pub fields: Fields,
+    pub count: usize,
+    pub touched: usize,
+}
+
+fn refused(answer: Answer) -> Run
+    ensures { λ r. ⌜ r ≡ record { answer = answer; fields = noFields; count = 0; touched = 0 } ⌝ }
+{
+    Run {
+        answer,
+        fields: Fields {
+            version: 0,
+            depth: 0,
+            width: 0,
+            height: 0,
+            next: Cursor { at: 0 },
+        },
+        count: 0,
+        touched: 0,
+    }
+}
+
+// A run over a file: the plane is left at the front of `samples`, and every record's answer at the front of `answers`.
+pub fn replay(file: &[u8], samples: &mut [u16], answers: &mut [u8]) -> Run
+    ensures { λ r. ⌜ Replayed (now (file .entry)) (now (samples .entry)) (now (answers .entry)) r (now (samples .exit)) (now (answers .exit)) ⌝ }
+{
+    if samples.len() < answers::AREA_LIMIT {
+        return refused(Answer::Length);
+    }
+    if answers.len() < RECORD_LIMIT {
+        return refused(Answer::Length);
+    }
+    let h = vbk_read::read_header(file);
+    let answer = h.answer;
+    if answers::code(answer) != 0 {
+        return refused(answer);
+    }
+    let fields = h.fields;
+    let n = vbk_read::area(fields.width, fields.height);
+    let tally = play(file, fields, &mut samples[..n], answers);
+    Run {
+        answer,
+        fields,
+        count: tally.count,
+        touched: tally.touched,
+    }
+}
+
+fn wide8(x: u8) -> u64
+    ensures { λ r. ⌜ r ≡ x ⌝ }
+{
+    x as u64
+}
+
+fn wide16(x: u16) -> u64
+    ensures { λ r. ⌜ r ≡ x ⌝ }
+{
+    x as u64
+}
+
+fn long16(x: u16) -> usize
+    ensures { λ r. ⌜ r ≡ x ⌝ }
+{
+    x as usize
+}
+
+// The text of a run that is not refused.
+fn print_run(run: Run, samples: &[u16], answers: &[u8], out: &mut [u8]) -> usize
+    requires { ⌜ (run .count ≤ length (now answers)) × (run .fields .width * run .fields .height ≤ length (now samples)) × Room (now out) 0 (text (outcomeOf run (now samples) (now answers))) ⌝ }
+    ensures { λ r. ⌜ Put (now (out .entry)) 0 (text (outcomeOf run (now (samples .entry)) (now (answers .entry)))) r (now (out .exit)) ⌝ }
+{
+    let fields = run.fields;
+    let count = run.count;
+    let n = vbk_read::area(fields.width, fields.height);
+    let version = wide16(fields.version);
+    let depth = wide8(fields.depth);
+    let width = long16(fields.width);
+    let height = long16(fields.height);
+    vbk_text::write_run(
+        out,
+        version,
+        depth,
+        width,
+        height,
+        &answers[..count],
+        &samples[..n],
+        run.touched as u64,
+    )
+}
+
+// A run over a file and its text, which is left at the front of `out`; how long it is. 0 where a lent room is too short.
+pub fn blockrun(file: &[u8], samples: &mut [u16], answers: &mut [u8], out: &mut [u8]) -> usize
+    ensures { λ r. ⌜ Printed (now (file .entry)) (now (samples .entry)) (now (answers .entry)) (now (out .entry)) r (now (samples .exit)) (now (answers .exit)) (now (out .exit)) ⌝ }
+{
+    if out.len() < vbk_text::TEXT_LIMIT {
+        return 0;
+    }
+    if samples.len() < answers::AREA_LIMIT {
+        return 0;
+    }
+    if answers.len() < RECORD_LIMIT {
+        return 0;
+    }
+    let run = replay(file, samples, answers);
+    let answer = run.answer;
+    let number = answers::code(answer);
+    if number != 0 {
+        return vbk_text::write_refusal(out, number as u64);
+    }
+    print_run(run, samples, answers, out)
+}

@@ -1,5 +1,5 @@
 use mathlib.Core.Path.{_≡_, sym, _∙_}
-use mathlib.Core.Bool.{true}
+use mathlib.Core.Bool.{true, false}
 use native.Mathlib.Omega.{arith}
 use borrow.Author.Needs.{needs}
 use mir.Syntax.{w64}
@@ -13,16 +13,16 @@ use Rattle.idct.proofs.fast.checked2.Tie as tie
 
 -- what the call is given
 abbrev given : tie.Start → Input
-given s = record { block = s .args .block .now; n = 2; type = s .args .tx-type; lossless = s .args .lossless }
+given s = record { block = s .args .block .now; n = 2; type = s .args .tx-type; lossless = false }
 
-only : (c : tie.Then1) → let s = c .before .before .before in onlyDc 16 (s .args .tx-type) (s .args .lossless) (s .args .block .now) ≡ true
+only : (c : tie.Then1) → let s = c .before .before .before in onlyDc 16 (s .args .tx-type) false (s .args .block .now) ≡ true
 only c = sym (c .before .only-dc .ensures) ∙ c .if1 .taken
 
 -- place 0 is the only one that can be beyond
 first : (c : tie.After-is-beyond) → let s = c .before .before .before .before .before in anyBeyond COEF_LIMIT 16 (s .args .block .now) ≡ c .is-beyond .result
 first c =
     let s = c .before .before .before .before .before in
-    dc-beyond 2 (s .args .tx-type) (s .args .lossless) (s .args .block .now) (omega arith) (omega arith) (s .pre) (only (c .before .before))
+    dc-beyond 2 (s .args .tx-type) false (s .args .block .now) (omega arith) (omega arith) (s .pre) (only (c .before .before))
     ∙ sym (c .is-beyond .ensures ∙ rw (toZ-ofZ {w = w64} (record { sfits = c .before .is-beyond-arg .given })))
 
 returns : tie.Need-returns
@@ -39,7 +39,7 @@ returns-2 c =
     let s = c .before .before .before .before .before .before .before .before .before in
     let e = c .before .before .before in
     under (given s) _ (first (e .before) ∙ e .if2 .left)
-    (dc-written 2 (s .args .tx-type) (s .args .lossless) (s .args .block .now) (omega arith) (omega arith) (s .pre) (only (e .before .before .before)) (c .before .dc-fill .ensures))
+    (dc-written 2 (s .args .tx-type) false (s .args .block .now) (omega arith) (omega arith) (s .pre) (only (e .before .before .before)) (c .before .dc-fill .ensures))
 
 returns-3 : tie.Need-returns-3
 returns-3 c = over (given (c .before .before .before .before .before .before)) (sym (c .before .some-beyond .ensures) ∙ c .if3 .taken)

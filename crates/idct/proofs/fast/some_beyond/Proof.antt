@@ -1,64 +1,34 @@
-use mathlib.Core.Path.{_≡_, refl, sym, ap, _∙_}
-use mathlib.Core.Logic.{⊎-elim}
-use mathlib.Core.Bool.{true, false, not}
-use Prim.Native.Nat.{_-_, _≤_}
+use mathlib.Core.Path.{_≡_, _∙_}
+use Prim.Native.Nat.{ℕ, _-_, _≤_, _<_}
 use native.Mathlib.Omega.{arith}
 use borrow.Author.Needs.{needs}
-use lib.Dec.{ltb, eqb}
 use lib.IntN.{pos, natAbs}
 use lib.ListN.{getD}
 use mir.Syntax.{w64}
 use mir.Facts.{toZ-ofZ}
-use Rattle.answers.specs.Limits.{COEF_LIMIT}
-use Rattle.answers.specs.Bad.{anyBeyond}
-use Rattle.idct.proofs.Beyond.{count-none, count-hit, count-pass}
+use Rattle.idct.proofs.Beyond.{or-more, none-beyond}
 use Rattle.idct.proofs.fast.some_beyond.Statement.{statement}
 use Rattle.idct.proofs.fast.some_beyond.Tie as tie
 
+-- no magnitude passed is above `all`
 abbrev Inv-loop : tie.InvT-loop
-Inv-loop block count k₀ i₀ k i = (i ≤ count) × (k ≤ i) × (not (eqb k 0) ≡ anyBeyond COEF_LIMIT i block)
+Inv-loop block count all₀ i₀ all i = (i ≤ count) × ((k : ℕ) → k < i → natAbs (getD block k (pos 0)) ≤ all)
 
 abbrev μ-loop : tie.MeasureT-loop
-μ-loop block count k₀ i₀ k i = count - i
-
--- what the turn tests
-seen : (c : tie.After-is-beyond Inv-loop μ-loop)
-    → c .is-beyond .result ≡ ltb COEF_LIMIT (natAbs (getD (c .before .before .before .before .args .block .now) (c .before .before .before .loop .i) (pos 0)))
-seen c = c .is-beyond .ensures ∙ rw (toZ-ofZ {w = w64} (record { sfits = c .before .is-beyond-arg .given }))
-
-loop-holds : tie.Need-loop-holds Inv-loop μ-loop
-loop-holds c = (omega arith, omega arith, count-none _ _)
-
-mul-is-beyond : tie.Need-mul-is-beyond Inv-loop μ-loop
-mul-is-beyond c = search needs
-
-shared-slice-copy-out-is-beyond : tie.Need-shared-slice-copy-out-is-beyond Inv-loop μ-loop
-shared-slice-copy-out-is-beyond c = search needs
-
-is-beyond-requires : tie.Need-is-beyond-requires Inv-loop μ-loop
-is-beyond-requires c κs = search needs
-
-add-k : tie.Need-add-k Inv-loop μ-loop
-add-k c = search needs
-
-add-i : tie.Need-add-i Inv-loop μ-loop
-add-i c = search needs
-
-loop-less : tie.Need-loop-less Inv-loop μ-loop
-loop-less c = search needs
+μ-loop block count all₀ i₀ all i = count - i
 
 loop-again : tie.Need-loop-again Inv-loop μ-loop
 loop-again c =
-    let at-loop = c .before .before .before .before in
-    ⊎-elim
-    (λ w. (omega arith, omega (arith, w .1), rw (w .1) (count-hit _ _ (at-loop .loop .k) (at-loop .loop .i) (sym (seen (c .before)) ∙ w .0 .taken))))
-    (λ w. (omega arith, omega (arith, w .1), rw (w .1) (count-pass _ _ (at-loop .loop .k) (at-loop .loop .i) (at-loop .loop .inv .2) (sym (seen (c .before)) ∙ w .0 .left))))
-    (c .if1 .came)
+    let l = c .before .before .before in
+    let b = l .before .args .block .now in
+    let e : c .magnitude .result ≡ natAbs (getD b (l .loop .i) (pos 0)) =
+    c .magnitude .ensures ∙ rw (toZ-ofZ {w = w64} {z = getD b (l .loop .i) (pos 0)} (record { sfits = c .before .magnitude-arg .given })) in
+    (omega arith, or-more b (l .loop .i) (l .loop .all) e (l .loop .inv .1))
 
 returns : tie.Need-returns Inv-loop μ-loop
 returns c =
-    let e : c .before .before .args .count ≡ c .before .loop .i = omega arith in
-    rw e (c .before .loop .inv .2)
+    let l = c .before .before in
+    none-beyond _ _ (l .loop .all) (l .before .args .block .now) (c .if1 .taken) (λ k h. l .loop .inv .1 k (omega arith))
 
 pub some-beyond-spec : {M : Type 1} → statement M
 some-beyond-spec =
@@ -66,12 +36,13 @@ some-beyond-spec =
     (tie.spec
     Inv-loop
     μ-loop
-    loop-holds
-    mul-is-beyond
-    shared-slice-copy-out-is-beyond
-    is-beyond-requires
-    add-k
-    add-i
-    loop-less
+    (λ c. (omega arith, λ k h. omega arith))
+    (λ c. search needs)
+    (λ c. search needs)
+    (λ c κs. search needs)
+    (λ c. search needs)
+    (λ c. search needs)
     loop-again
-    returns)
+    returns
+    (λ c κs. search needs)
+    (λ c. search needs))
