@@ -1,0 +1,183 @@
+-- The VBK file's answers: each number is given when, and only when, its step is the first whose condition holds.
+use mathlib.Core.Path.{_≡_, refl, sym, subst, _∙_}
+use mathlib.Core.Bool.{Bool, true, false, not, cond, _&&_, _||_}
+use mathlib.Core.List.{List, [], _∷_}
+use Prim.Native.Nat.{ℕ, suc, _+_, _≤_, _<_}
+use native.Mathlib.Omega.{arith}
+use borrow.Author.Tests.{ltb-true, ltb-false, eqb-true, lt-ltb, le-ltb, eq-eqb, ne-eqb, leb-false, lt-leb}
+use lib.Dec.{leb, ltb, eqb}
+use lib.ListN.{length}
+use Rattle.answers.specs.Answers.{number, lowest}
+use Rattle.answers.specs.Limits.{FILE_LIMIT, AREA_LIMIT}
+use Rattle.answers.specs.Bad.{badDepth, badSize}
+use Rattle.answers.proofs.Numbers.{Applies, there}
+use Rattle.vbk_read.specs.Bytes.{le1}
+use Rattle.vbk_read.specs.Header.{HEADER_BYTES, versionOf, depthOf, areaOf, firstRecord, marked, badArea, headerAnswer, Headed}
+use Rattle.vbk_read.specs.Records.{HEAD_BYTES, sizeAt, losslessAt, nextAt, endAnswer, ends, losslessAnswer, checkAnswer, Recorded}
+use Rattle.vbk_read.specs.declared.Header.{Header}
+use Rattle.vbk_read.specs.declared.Record.{Record}
+use Rattle.vbk.specs.Replay.{RECORD_LIMIT}
+use Rattle.vbk.specs.Promises.{roomy, runAnswer, Replayed}
+use Rattle.vbk.specs.declared.Run.{Run}
+use Rattle.promises.specs.Exactly.{InOrder}
+use Rattle.promises.specs.When as W
+use Rattle.promises.proofs.Exactly.{Each, none, more, here-if, in-order, renumber, later, each-later}
+use Rattle.promises.proofs.Tests as T
+
+-- ---- the header
+not-marked : (s : List ℕ) → not (marked s) ≡ true → le1 s 0 ≡ 86 → le1 s 1 ≡ 66 → le1 s 2 ≡ 75 → ⊥
+unfolding marked
+not-marked s h a b c = T.never (rw (eq-eqb (le1 s 0) 86 a, eq-eqb (le1 s 1) 66 b, eq-eqb (le1 s 2) 75 c) at h)
+
+mark-test : (s : List ℕ) → (le1 s 0 ≡ 86 → le1 s 1 ≡ 66 → le1 s 2 ≡ 75 → ⊥) → not (marked s) ≡ true
+unfolding marked
+mark-test s h = go (eqb (le1 s 0) 86) (eqb (le1 s 1) 66) (eqb (le1 s 2) 75) refl refl refl
+  where
+    go : (x y z : Bool) → eqb (le1 s 0) 86 ≡ x → eqb (le1 s 1) 66 ≡ y → eqb (le1 s 2) 75 ≡ z
+        → not (eqb (le1 s 0) 86 && (eqb (le1 s 1) 66 && eqb (le1 s 2) 75)) ≡ true
+    go false y z p q r = rw p
+    go true false z p q r = rw (p, q)
+    go true true false p q r = rw (p, q, r)
+    go true true true p q r = absurd (h (eqb-true (le1 s 0) 86 p) (eqb-true (le1 s 1) 66 q) (eqb-true (le1 s 2) 75 r))
+
+no-area : (s : List ℕ) → badArea (areaOf s) ≡ true → W.Header s 6
+unfolding badArea
+no-area s h =
+    T.or-true (eqb (areaOf s) 0) (ltb AREA_LIMIT (areaOf s)) (λ e. W.empty (eqb-true (areaOf s) 0 e)) (λ e. W.area (ltb-true AREA_LIMIT (areaOf s) e)) h
+
+empty-test : (s : List ℕ) → areaOf s ≡ 0 → badArea (areaOf s) ≡ true
+unfolding badArea
+empty-test s h = T.left (eqb (areaOf s) 0) (ltb AREA_LIMIT (areaOf s)) (eq-eqb (areaOf s) 0 h)
+
+area-test : (s : List ℕ) → AREA_LIMIT < areaOf s → badArea (areaOf s) ≡ true
+unfolding badArea
+area-test s h = T.right (eqb (areaOf s) 0) (ltb AREA_LIMIT (areaOf s)) (lt-ltb AREA_LIMIT (areaOf s) h)
+
+abbrev headerSteps : List ℕ → List (ℕ × Bool)
+headerSteps s =
+    (1, ltb FILE_LIMIT (length s))
+    ∷ (2, ltb (length s) HEADER_BYTES)
+    ∷ (3, not (marked s))
+    ∷ (4, not (eqb (versionOf s) 1))
+    ∷ (5, badDepth (depthOf s))
+    ∷ (6, badArea (areaOf s))
+    ∷ (7, ltb (length s) (firstRecord s))
+    ∷ []
+
+header-each : (s : List ℕ) → Each (W.Header s) (headerSteps s)
+header-each s =
+    more (λ e. W.large (ltb-true FILE_LIMIT (length s) e))
+    (more (λ e. W.short (ltb-true (length s) HEADER_BYTES e))
+    (more (λ e. W.mark (not-marked s e))
+    (more (λ e. W.version (T.differ (versionOf s) 1 e))
+    (more (λ e. W.depth (T.no-depth (depthOf s) e)) (more (no-area s) (more (λ e. W.samples (ltb-true (length s) (firstRecord s) e)) none))))))
+
+header-has : (s : List ℕ) (n : ℕ) → W.Header s n → Applies n (headerSteps s)
+header-has s n (W.large h) = here-if 1 _ _ (lt-ltb FILE_LIMIT (length s) h)
+header-has s n (W.short h) = there (here-if 2 _ _ (lt-ltb (length s) HEADER_BYTES h))
+header-has s n (W.mark h) = there (there (here-if 3 _ _ (mark-test s h)))
+header-has s n (W.version h) = there (there (there (here-if 4 _ _ (T.differs (versionOf s) 1 h))))
+header-has s n (W.depth h) = there (there (there (there (here-if 5 _ _ (T.depth-test (depthOf s) h)))))
+header-has s n (W.empty h) = there (there (there (there (there (here-if 6 _ _ (empty-test s h))))))
+header-has s n (W.area h) = there (there (there (there (there (here-if 6 _ _ (area-test s h))))))
+header-has s n (W.samples h) = there (there (there (there (there (there (here-if 7 _ _ (lt-ltb (length s) (firstRecord s) h)))))))
+
+header-order : (s : List ℕ) → InOrder (W.Header s) W.headerNumbers (headerAnswer s)
+unfolding headerAnswer
+header-order s = in-order (W.Header s) W.headerNumbers (headerSteps s) refl tt (header-each s) (header-has s)
+
+-- `read_header`
+pub header-when : (s : List ℕ) (h : Header) → Headed s h → InOrder (W.Header s) W.headerNumbers (number (h .answer))
+header-when s h p = subst (λ (n : ℕ). InOrder (W.Header s) W.headerNumbers n) (sym (p .answered)) (header-order s)
+
+-- ---- a record
+abbrev recordSteps : List ℕ → ℕ → List (ℕ × Bool)
+recordSteps s at =
+    (1, ltb (length s) (at + HEAD_BYTES))
+    ∷ (2, badSize (sizeAt s at))
+    ∷ (3, ltb (length s) (nextAt s at))
+    ∷ (4, ltb 1 (losslessAt s at))
+    ∷ []
+
+record-each : (s : List ℕ) (at : ℕ) → Each (W.Record s at) (recordSteps s at)
+record-each s at =
+    more (λ e. W.head (ltb-true (length s) (at + HEAD_BYTES) e))
+    (more (λ e. W.size (ltb-true 3 (sizeAt s at) e))
+    (more (λ e. W.tokens (ltb-true (length s) (nextAt s at) e)) (more (λ e. W.lossless (ltb-true 1 (losslessAt s at) e)) none)))
+
+record-has : (s : List ℕ) (at n : ℕ) → W.Record s at n → Applies n (recordSteps s at)
+record-has s at n (W.head h) = here-if 1 _ _ (lt-ltb (length s) (at + HEAD_BYTES) h)
+record-has s at n (W.size h) = there (here-if 2 _ _ (lt-ltb 3 (sizeAt s at) h))
+record-has s at n (W.tokens h) = there (there (here-if 3 _ _ (lt-ltb (length s) (nextAt s at) h)))
+record-has s at n (W.lossless h) = there (there (there (here-if 4 _ _ (lt-ltb 1 (losslessAt s at) h))))
+
+-- the checks that end the reading, then the lossless byte: one table
+joined : (a b c d : Bool)
+    → cond (not (eqb (lowest ((12, a) ∷ (2, b) ∷ (12, c) ∷ [])) 0)) (lowest ((12, a) ∷ (2, b) ∷ (12, c) ∷ [])) (lowest ((14, d) ∷ []))
+    ≡ lowest ((12, a) ∷ (2, b) ∷ (12, c) ∷ (14, d) ∷ [])
+joined true b c d = refl
+joined false true c d = refl
+joined false false true d = refl
+joined false false false d = refl
+
+check-is : (s : List ℕ) (at : ℕ)
+    → checkAnswer s at ≡ lowest ((12, ltb (length s) (at + HEAD_BYTES)) ∷ (2, badSize (sizeAt s at)) ∷ (12, ltb (length s) (nextAt s at)) ∷ (14, ltb 1 (losslessAt s at)) ∷ [])
+unfolding checkAnswer endAnswer
+check-is s at = joined (ltb (length s) (at + HEAD_BYTES)) (badSize (sizeAt s at)) (ltb (length s) (nextAt s at)) (ltb 1 (losslessAt s at))
+
+record-order : (s : List ℕ) (at : ℕ) → InOrder (W.Record s at) W.recordNumbers (checkAnswer s at)
+record-order s at =
+    subst (λ (n : ℕ). InOrder (W.Record s at) W.recordNumbers n) (sym (check-is s at))
+    (in-order (W.Record s at) W.recordNumbers (recordSteps s at) refl tt (record-each s at) (record-has s at))
+
+-- `record_at`, `next_record` and the reader's `next`
+pub record-when : (s : List ℕ) (at : ℕ) (r : Record) → Recorded s at r → InOrder (W.Record s at) W.recordNumbers (number (r .answer))
+record-when s at r p = subst (λ (n : ℕ). InOrder (W.Record s at) W.recordNumbers n) (sym (p .answered)) (record-order s at)
+
+-- ---- a run
+run-room : (s samples answers : List ℕ) → not (roomy samples answers) ≡ true → W.Run s samples answers 1
+unfolding roomy
+run-room s samples answers h = go (leb AREA_LIMIT (length samples)) (leb RECORD_LIMIT (length answers)) refl refl
+  where
+    go : (x y : Bool) → leb AREA_LIMIT (length samples) ≡ x → leb RECORD_LIMIT (length answers) ≡ y → W.Run s samples answers 1
+    go false y p q = W.plane-room (leb-false AREA_LIMIT (length samples) p)
+    go true false p q = W.answers-room (leb-false RECORD_LIMIT (length answers) q)
+    go true true p q = T.never (rw (p, q) at h)
+
+plane-test : (samples answers : List ℕ) → length samples < AREA_LIMIT → not (roomy samples answers) ≡ true
+unfolding roomy
+plane-test samples answers h = rw (lt-leb AREA_LIMIT (length samples) h)
+
+answers-test : (samples answers : List ℕ) → length answers < RECORD_LIMIT → not (roomy samples answers) ≡ true
+unfolding roomy
+answers-test samples answers h = rw (lt-leb RECORD_LIMIT (length answers) h) (not-and (leb AREA_LIMIT (length samples)))
+  where
+    not-and : (b : Bool) → not (b && false) ≡ true
+    not-and true = refl
+    not-and false = refl
+
+abbrev runSteps : List ℕ → List ℕ → List ℕ → List (ℕ × Bool)
+runSteps s samples answers = (1, not (roomy samples answers)) ∷ renumber suc (headerSteps s)
+
+run-has : (s samples answers : List ℕ) (n : ℕ) → W.Run s samples answers n → Applies n (runSteps s samples answers)
+run-has s samples answers n (W.plane-room h) = here-if 1 _ _ (plane-test samples answers h)
+run-has s samples answers n (W.answers-room h) = here-if 1 _ _ (answers-test samples answers h)
+run-has s samples answers n (W.header {k = k} h) = there (later k (headerSteps s) (header-has s k h))
+
+run-is : (b : Bool) (r : ℕ) → cond b r 6 ≡ cond (not b) 6 r
+run-is true r = refl
+run-is false r = refl
+
+run-order : (s samples answers : List ℕ) → InOrder (W.Run s samples answers) W.runNumbers (runAnswer s samples answers)
+unfolding runAnswer headerAnswer
+run-order s samples answers =
+    subst (λ (n : ℕ). InOrder (W.Run s samples answers) W.runNumbers n) (sym (run-is (roomy samples answers) (headerAnswer s)))
+    (in-order (W.Run s samples answers) W.runNumbers (runSteps s samples answers) refl tt
+    (more (run-room s samples answers) (each-later (W.Header s) (W.Run s samples answers) (headerSteps s) (λ k h. W.header h) (header-each s)))
+    (run-has s samples answers))
+
+-- `replay`
+pub run-when : (s samples answers : List ℕ) (r : Run) (samples′ answers′ : List ℕ) → Replayed s samples answers r samples′ answers′
+    → InOrder (W.Run s samples answers) W.runNumbers (number (r .answer))
+run-when s samples answers r samples′ answers′ p =
+    subst (λ (n : ℕ). InOrder (W.Run s samples answers) W.runNumbers n) (sym (p .answered)) (run-order s samples answers)

@@ -1,0 +1,6 @@
+pub mod Exactly
+pub mod Tests
+pub mod When
+pub mod Files
+pub mod Unique
+pub mod Numbers

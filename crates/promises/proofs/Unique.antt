@@ -1,0 +1,90 @@
+-- One result per promise: two results that meet a call's promise on the same input coincide, the answer, every value and every lent element.
+use mathlib.Core.Path.{_≡_, refl, sym, ap, _∙_}
+use mathlib.Core.List.{List}
+use Prim.Native.Nat.{ℕ}
+use lib.IntN.{ℤ, pos}
+use Rattle.answers.specs.declared.Answer.{Answer}
+use Rattle.answers.specs.Answers.{number}
+use Rattle.answers.specs.Limits.{codeable}
+use Rattle.answers.proofs.Numbers.{number-injective}
+use Rattle.idct.specs.Driver as D
+use Rattle.reconstruct.specs.Reconstruct as R
+use Rattle.fwd_transform.specs.Quantize as Q
+use Rattle.fwd_transform.specs.ForwardWht.{Forwarded}
+use Rattle.vbk_read.specs.Header.{Headed}
+use Rattle.vbk_read.specs.Records.{Recorded}
+use Rattle.vbk_read.specs.declared.Cursor.{Cursor}
+use Rattle.vbk_read.specs.declared.Fields.{Fields}
+use Rattle.vbk_read.specs.declared.Head.{Head}
+use Rattle.vbk_read.specs.declared.Header.{Header}
+use Rattle.vbk_read.specs.declared.Record.{Record}
+use Rattle.vbk.specs.Promises.{Replayed, Printed}
+use Rattle.vbk.specs.declared.Run.{Run}
+
+-- two answers with one number, and two values with one definition
+same-answer : (n : ℕ) (a b : Answer) → number a ≡ n → number b ≡ n → a ≡ b
+same-answer n a b p q = number-injective a b (p ∙ sym q)
+
+same : {A : Type 0} {d x y : A} → x ≡ d → y ≡ d → x ≡ y
+same p q = p ∙ sym q
+
+-- `inverse_transform_2d` and `inverse_transform_2d_reference`, and so the two give one result
+pub driver-unique : (u : D.Input) (a b : Answer) (s t : List ℤ) → D.Driven u a s → D.Driven u b t → (a ≡ b) × (s ≡ t)
+driver-unique u a b s t p q = (same-answer (D.answerOf u) a b (p .answered) (q .answered), same (p .written) (q .written))
+
+-- `reconstruct_block`
+pub reconstruct-unique : (u : R.Input) (a b : Answer) (s t : List ℕ) → R.Reconstructed u a s → R.Reconstructed u b t → (a ≡ b) × (s ≡ t)
+reconstruct-unique u a b s t p q = (same-answer (R.answerOf u) a b (p .answered) (q .answered), same (p .written) (q .written))
+
+-- `forward_wht_2d`
+pub forward-unique : (block : List ℤ) (a b : Answer) (s t : List ℤ) → Forwarded block a s → Forwarded block b t → (a ≡ b) × (s ≡ t)
+forward-unique block a b s t p q = (same-answer _ a b (p .answered) (q .answered), same (p .written) (q .written))
+
+-- `quantize_block_tx` and `quantize_block`
+pub quantize-unique : (u : Q.Input) (a b : Answer) (s t : List ℤ) → Q.Quantized u a s → Q.Quantized u b t → (a ≡ b) × (s ≡ t)
+quantize-unique u a b s t p q = (same-answer (Q.answerOf u) a b (p .answered) (q .answered), same (p .written) (q .written))
+
+-- `max_codeable_coef`
+pub codeable-unique : (depth : ℕ) (r t : ℤ) → r ≡ pos (codeable depth) → t ≡ pos (codeable depth) → r ≡ t
+codeable-unique depth r t p q = same p q
+
+-- `read_header`
+pub header-unique : (s : List ℕ) (h k : Header) → Headed s h → Headed s k → h ≡ k
+header-unique s h k p q =
+    let a = same-answer _ (h .answer) (k .answer) (p .answered) (q .answered) in
+    let f = same (p .fields-are) (q .fields-are) in
+    ap (λ (x : Answer). record { answer = x; fields = h .fields }) a ∙ ap (λ (x : Fields). record { answer = k .answer; fields = x }) f
+
+-- `record_at`, `next_record` and the reader's `next`
+pub record-unique : (s : List ℕ) (at : ℕ) (r t : Record) → Recorded s at r → Recorded s at t → r ≡ t
+record-unique s at r t p q =
+    let a = same-answer _ (r .answer) (t .answer) (p .answered) (q .answered) in
+    let e = same (p .ends-is) (q .ends-is) in
+    let h = same (p .head-is) (q .head-is) in
+    let n = same (p .next-is) (q .next-is) in
+    ap (λ x. record { answer = x; ends = r .ends; head = r .head; next = r .next }) a
+    ∙ ap (λ x. record { answer = t .answer; ends = x; head = r .head; next = r .next }) e
+    ∙ ap (λ x. record { answer = t .answer; ends = t .ends; head = x; next = r .next }) h
+    ∙ ap (λ (x : ℕ). record { answer = t .answer; ends = t .ends; head = t .head; next = record { at = x } }) n
+
+-- `replay`
+pub replay-unique : (s samples answers : List ℕ) (r t : Run) (p₁ p₂ a₁ a₂ : List ℕ) → Replayed s samples answers r p₁ a₁ → Replayed s samples answers t p₂ a₂
+    → (r ≡ t) × (p₁ ≡ p₂) × (a₁ ≡ a₂)
+replay-unique s samples answers r t p₁ p₂ a₁ a₂ p q =
+    let a = same-answer _ (r .answer) (t .answer) (p .answered) (q .answered) in
+    let f = same (p .fields-are) (q .fields-are) in
+    let c = same (p .count-is) (q .count-is) in
+    let d = same (p .touched-is) (q .touched-is) in (
+      ap (λ x. record { answer = x; fields = r .fields; count = r .count; touched = r .touched }) a
+          ∙ ap (λ x. record { answer = t .answer; fields = x; count = r .count; touched = r .touched }) f
+          ∙ ap (λ x. record { answer = t .answer; fields = t .fields; count = x; touched = r .touched }) c
+          ∙ ap (λ x. record { answer = t .answer; fields = t .fields; count = t .count; touched = x }) d,
+      same (p .samples-are) (q .samples-are),
+      same (p .answers-are) (q .answers-are),
+    )
+
+-- `blockrun`
+pub blockrun-unique : (s samples answers out : List ℕ) (r t : ℕ) (p₁ p₂ a₁ a₂ o₁ o₂ : List ℕ) → Printed s samples answers out r p₁ a₁ o₁
+    → Printed s samples answers out t p₂ a₂ o₂ → (r ≡ t) × (p₁ ≡ p₂) × (a₁ ≡ a₂) × (o₁ ≡ o₂)
+blockrun-unique s samples answers out r t p₁ p₂ a₁ a₂ o₁ o₂ p q =
+    (same (p .length-is) (q .length-is), same (p .samples-are) (q .samples-are), same (p .answers-are) (q .answers-are), same (p .text-is) (q .text-is))

@@ -1,0 +1,33 @@
+-- The conditions that several calls share, in plain terms. Each number's line of the scope's table stands above its own.
+use mathlib.Core.Path.{_≡_}
+use mathlib.Core.Bool.{Bool, true, false}
+use mathlib.Core.List.{List}
+use Prim.Native.Nat.{ℕ, _≤_, _<_}
+use lib.IntN.{ℤ, pos, natAbs}
+use lib.ListN.{getD}
+
+-- 1: bit depth is not 8, 10 or 12
+pub record NoDepth (depth : ℕ) : Type 0 where
+  pub not-8 : depth ≡ 8 → ⊥
+  pub not-10 : depth ≡ 10 → ⊥
+  pub not-12 : depth ≡ 12 → ⊥
+
+-- 3: lossless with a size other than 4 by 4
+pub record LosslessAt (lossless : Bool) (size : ℕ) : Type 0 where
+  pub set : lossless ≡ true
+  pub larger : size ≡ 0 → ⊥
+
+-- 4: not lossless, and either a type above 3 or 32 by 32 with a type other than 0
+pub data NoKind (lossless : Bool) (size kind : ℕ) : Type 0 where
+  above : lossless ≡ false → 3 < kind → NoKind lossless size kind
+  at-32 : lossless ≡ false → size ≡ 3 → (kind ≡ 0 → ⊥) → NoKind lossless size kind
+
+-- 5: a quantizer outside 1 to 32,767
+pub record NoQuantizer (q : ℤ) : Type 0 where
+  pub outside : (n : ℕ) → 1 ≤ n → n ≤ 32767 → q ≡ pos n → ⊥
+
+-- 8 and 9: of the first n numbers of a list, one has a magnitude above m
+pub record SomeBeyond (m n : ℕ) (l : List ℤ) : Type 0 where
+  pub place : ℕ
+  pub listed : place < n
+  pub beyond : m < natAbs (getD l place (pos 0))

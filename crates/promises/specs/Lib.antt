@@ -1,0 +1,4 @@
+pub mod Exactly
+pub mod Conditions
+pub mod When
+pub mod Numbers

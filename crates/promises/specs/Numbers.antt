@@ -1,0 +1,56 @@
+-- The numbers of the scope that are proved, in one table: what a definition gives, beside what the scope says.
+use mathlib.Core.Bool.{false}
+use mathlib.Core.List.{List, [], _∷_}
+use Prim.Native.Nat.{ℕ}
+use lib.IntN.{ℤ, pos, negsuc}
+use lib.ListN.{replicate, take}
+use Rattle.answers.specs.Limits.{codeable}
+use Rattle.primitives.specs.Brev.{Brev}
+use Rattle.primitives.specs.Cosine.{Cos64, Sin64}
+use Rattle.wht.specs.Wht.{wht}
+use Rattle.quant.specs.Token.{quantize}
+use Rattle.blocks.specs.Inverse.{inverse2d}
+
+pub record Row : Type 0 where
+  pub given : List ℤ
+  pub said : List ℤ
+
+abbrev one : ℤ → ℤ → Row
+one given said = record { given = given ∷ []; said = said ∷ [] }
+
+-- the residual of a 4 by 4 block of type 0 with a number at place 0 alone, and the number that each of its sixteen is
+abbrev dcOnly : ℤ → ℤ → Row
+dcOnly x said = record { given = inverse2d 2 0 false (x ∷ replicate 15 (pos 0)); said = replicate 16 said }
+
+-- the token of a coefficient at a depth of 8
+abbrev token : ℕ → ℤ → ℤ → ℤ → Row
+token size q coef said = one (quantize size (codeable 8) q coef) said
+
+unfoldable pub numbers : List Row
+numbers =
+    one (pos (Brev 5 1)) (pos 16)
+    ∷ one (Cos64 (pos 100)) (pos 3196)
+    ∷ one (Cos64 (pos 65)) (negsuc 16363)
+    ∷ one (Cos64 (negsuc 31)) (pos 0)
+    ∷ one (Sin64 (pos 32)) (pos 16384)
+    ∷ one (Sin64 (negsuc 2147483647)) (pos 0)
+    ∷ dcOnly (pos 16) (pos 1)
+    ∷ dcOnly (pos 14) (pos 0)
+    ∷ dcOnly (negsuc 15) (pos 0)
+    ∷ dcOnly (pos 32) (pos 1)
+    ∷ record { given = take 4 (wht 0 (pos 5 ∷ replicate 31 (pos 0))); said = pos 3 ∷ pos 2 ∷ pos 2 ∷ pos 2 ∷ [] }
+    ∷ token 0 (pos 4) (pos 2) (pos 0)
+    ∷ token 0 (pos 4) (pos 3) (pos 1)
+    ∷ token 0 (pos 4) (pos 6) (pos 1)
+    ∷ token 0 (pos 4) (pos 7) (pos 2)
+    ∷ token 3 (pos 3) (pos 2) (pos 1)
+    ∷ []
+
+-- the two sides of a table
+abbrev pub givens : List Row → List (List ℤ)
+givens [] = []
+givens (r ∷ rs) = r .given ∷ givens rs
+
+abbrev pub saids : List Row → List (List ℤ)
+saids [] = []
+saids (r ∷ rs) = r .said ∷ saids rs

@@ -1,0 +1,89 @@
+-- For each call, the condition of each number that it can give.
+use mathlib.Core.Path.{_≡_}
+use mathlib.Core.Bool.{Bool, true, false, not}
+use mathlib.Core.List.{List, [], _∷_}
+use Prim.Native.Nat.{ℕ, suc, _+_, _-_, _*_, _≤_, _<_}
+use lib.Dec.{ltb, eqb}
+use lib.IntN.{ℤ}
+use lib.ListN.{length}
+use Rattle.answers.specs.Answers.{lowest}
+use Rattle.answers.specs.Limits.{COEF_LIMIT, WHT_LIMIT, SIDE_LIMIT, LIST_LIMIT, FILE_LIMIT, AREA_LIMIT, codeable}
+use Rattle.quant.specs.Places.{dequantAll}
+use Rattle.idct.specs.Driver as D
+use Rattle.reconstruct.specs.Reconstruct as R
+use Rattle.fwd_transform.specs.Quantize as Q
+use Rattle.vbk_read.specs.Bytes.{le1}
+use Rattle.vbk_read.specs.Header.{HEADER_BYTES, versionOf, depthOf, areaOf, firstRecord}
+use Rattle.vbk_read.specs.Records.{HEAD_BYTES, sizeAt, losslessAt, nextAt}
+use Rattle.vbk.specs.Replay.{RECORD_LIMIT}
+use Rattle.promises.specs.Conditions.{NoDepth, LosslessAt, NoKind, NoQuantizer, SomeBeyond}
+
+-- the 2D driver and the reference driver; the size number is n − 2
+pub data Driver (u : D.Input) : ℕ → Type 0 where
+  side : (2 ≤ u .n → u .n ≤ 5 → ⊥) → Driver u 2
+  lossless : LosslessAt (u .lossless) (u .n - 2) → Driver u 3
+  kind : NoKind (u .lossless) (u .n - 2) (u .type) → Driver u 4
+  room : length (u .block) < D.area (u .n) → Driver u 6
+  coefficient : SomeBeyond COEF_LIMIT (D.area (u .n)) (u .block) → Driver u 9
+
+-- reconstruction
+pub data Reconstruct (u : R.Input) : ℕ → Type 0 where
+  depth : NoDepth (u .depth) → Reconstruct u 1
+  size : 3 < u .size → Reconstruct u 2
+  lossless : LosslessAt (u .lossless) (u .size) → Reconstruct u 3
+  kind : NoKind (u .lossless) (u .size) (u .kind) → Reconstruct u 4
+  dc : NoQuantizer (u .dc .0) → Reconstruct u 5
+  ac : NoQuantizer (u .ac .0) → Reconstruct u 5
+  count : (length (u .tokens) ≡ R.area (u .size) → ⊥) → Reconstruct u 6
+  wide : SIDE_LIMIT < u .plane .width → Reconstruct u 7
+  high : SIDE_LIMIT < u .plane .height → Reconstruct u 7
+  samples : (length (u .samples) ≡ u .plane .width * u .plane .height → ⊥) → Reconstruct u 7
+  token : SomeBeyond (codeable (u .depth)) (length (u .tokens)) (u .tokens) → Reconstruct u 8
+  coefficient : SomeBeyond COEF_LIMIT (length (u .tokens)) (dequantAll (u .size) (u .dc) (u .ac) (u .tokens)) → Reconstruct u 9
+
+-- the quantizer
+pub data Quantize (u : Q.Input) : ℕ → Type 0 where
+  depth : NoDepth (u .depth) → Quantize u 1
+  size : 3 < u .size → Quantize u 2
+  dc : NoQuantizer (u .dc .0) → Quantize u 5
+  ac : NoQuantizer (u .ac .0) → Quantize u 5
+  count : LIST_LIMIT < length (u .coefs) → Quantize u 6
+  coefficient : SomeBeyond COEF_LIMIT (length (u .coefs)) (u .coefs) → Quantize u 9
+
+-- the forward WHT
+pub data Forward (block : List ℤ) : ℕ → Type 0 where
+  count : (length block ≡ 16 → ⊥) → Forward block 6
+  coefficient : SomeBeyond WHT_LIMIT (length block) block → Forward block 9
+
+-- the header of a VBK file, step by step
+pub data Header (s : List ℕ) : ℕ → Type 0 where
+  large : FILE_LIMIT < length s → Header s 1
+  short : length s < HEADER_BYTES → Header s 2
+  mark : (le1 s 0 ≡ 86 → le1 s 1 ≡ 66 → le1 s 2 ≡ 75 → ⊥) → Header s 3
+  version : (versionOf s ≡ 1 → ⊥) → Header s 4
+  depth : NoDepth (depthOf s) → Header s 5
+  empty : areaOf s ≡ 0 → Header s 6
+  area : AREA_LIMIT < areaOf s → Header s 6
+  samples : length s < firstRecord s → Header s 7
+
+abbrev pub headerNumbers : List ℕ
+headerNumbers = 0 ∷ 13 ∷ 12 ∷ 10 ∷ 11 ∷ 1 ∷ 13 ∷ 12 ∷ []
+
+-- a record at a place, before its reconstruction; after the first three the reading ends
+pub data Record (s : List ℕ) (at : ℕ) : ℕ → Type 0 where
+  head : length s < at + HEAD_BYTES → Record s at 1
+  size : 3 < sizeAt s at → Record s at 2
+  tokens : length s < nextAt s at → Record s at 3
+  lossless : 1 < losslessAt s at → Record s at 4
+
+abbrev pub recordNumbers : List ℕ
+recordNumbers = 0 ∷ 12 ∷ 2 ∷ 12 ∷ 14 ∷ []
+
+-- a run over a file: the rooms lent for the plane and the answers, then the header
+pub data Run (s samples answers : List ℕ) : ℕ → Type 0 where
+  plane-room : length samples < AREA_LIMIT → Run s samples answers 1
+  answers-room : length answers < RECORD_LIMIT → Run s samples answers 1
+  header : {k : ℕ} → Header s k → Run s samples answers (suc k)
+
+abbrev pub runNumbers : List ℕ
+runNumbers = 0 ∷ 6 ∷ 13 ∷ 12 ∷ 10 ∷ 11 ∷ 1 ∷ 13 ∷ 12 ∷ []
