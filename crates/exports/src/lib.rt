@@ -1,7 +1,25 @@
+// The public calls for C: numbers and slices in, the answer's number out. Each hands on to the proved call of its name.
+use plane::Plane;
+use quant::AcQuant;
+use quant::DcQuant;
 ghost use mathlib.Core.Path.{_≡_};
+ghost use mathlib.Core.List.{_∷_};
+ghost use Prim.Native.Nat.{_≤_};
+ghost use lib.IntN.{pos};
+ghost use lib.ListN.{length, drop};
+ghost use Rattle.answers.specs.Limits.{codeable};
 ghost use Rattle.idct.specs.Driver.{answerOf, blockAfter};
+ghost use Rattle.reconstruct.specs.Reconstruct.{answerOf as reconstructAnswer, samplesAfter};
+ghost use Rattle.fwd_transform.specs.ForwardWht.{whtAnswer};
+ghost use Rattle.fwd_transform.specs.Quantize.{answerOf as quantizeAnswer};
+ghost use Rattle.vbk.specs.Promises.{Printed};
+ghost use Rattle.exports.specs.Told.{Told, whtAfter, coefsAfter};
+ghost use Rattle.exports.specs.Run.{FIGURES, RunTold};
 
-// The 2D driver, for C: its answer's number.
+// Numbers that a run tells of itself: depth, width, height, records read, touched count.
+pub const FIGURES: usize = 5;
+
+// The 2D driver.
 #[no_mangle]
 pub extern "C" fn bracetwill_inverse_transform_2d(
     block: &mut [i64],
@@ -9,8 +27,159 @@ pub extern "C" fn bracetwill_inverse_transform_2d(
     tx_type: u8,
     lossless: bool,
 ) -> u32
-    ensures { λ r. ⌜ (r ≡ answerOf (record { block = now (block .entry); n = n; type = «tx_type»; lossless = lossless })) × (now (block .exit) ≡ blockAfter (record { block = now (block .entry); n = n; type = «tx_type»; lossless = lossless })) ⌝ }
+    ensures { λ r. ⌜ Told answerOf blockAfter (record { block = now (block .entry); n = n; type = «tx_type»; lossless = lossless }) r (now (block .exit)) ⌝ }
 {
     let a = idct::inverse_transform_2d(block, n, tx_type, lossless);
     answers::code(a)
+}
+
+// The reference driver, which promises the same.
+#[no_mangle]
+pub extern "C" fn bracetwill_inverse_transform_2d_reference(
+    block: &mut [i64],
+    n: u32,
+    tx_type: u8,
+    lossless: bool,
+) -> u32
+    ensures { λ r. ⌜ Told answerOf blockAfter (record { block = now (block .entry); n = n; type = «tx_type»; lossless = lossless }) r (now (block .exit)) ⌝ }
+{
+    let a = idct::inverse_transform_2d_reference(block, n, tx_type, lossless);
+    answers::code(a)
+}
+
+// A block's tokens into a plane's samples.
+#[no_mangle]
+pub extern "C" fn bracetwill_reconstruct_block(
+    samples: &mut [u16],
+    width: usize,
+    height: usize,
+    x: usize,
+    y: usize,
+    tx_sz: u32,
+    tokens: &[i64],
+    dc_quant: i32,
+    ac_quant: i32,
+    tx_type: u8,
+    lossless: bool,
+    bit_depth: u32,
+) -> u32
+    ensures { λ r. ⌜ Told reconstructAnswer samplesAfter (record { samples = now (samples .entry); plane = record { width = width; height = height }; x = x; y = y; size = «tx_sz»; tokens = now (tokens .entry); dc = record { 0 = «dc_quant» }; ac = record { 0 = «ac_quant» }; kind = «tx_type»; lossless = lossless; depth = «bit_depth» }) r (now (samples .exit)) ⌝ }
+{
+    let a = reconstruct::reconstruct_block(
+        samples,
+        Plane { width, height },
+        x,
+        y,
+        tx_sz,
+        tokens,
+        DcQuant(dc_quant),
+        AcQuant(ac_quant),
+        tx_type,
+        lossless,
+        bit_depth,
+    );
+    answers::code(a)
+}
+
+// The forward WHT of a block.
+#[no_mangle]
+pub extern "C" fn bracetwill_forward_wht_2d(block: &mut [i64]) -> u32
+    ensures { λ r. ⌜ Told whtAnswer whtAfter (now (block .entry)) r (now (block .exit)) ⌝ }
+{
+    let a = fwd_transform::forward_wht_2d(block);
+    answers::code(a)
+}
+
+// Coefficients to tokens, at any size and depth.
+#[no_mangle]
+pub extern "C" fn bracetwill_quantize_block_tx(
+    coefs: &mut [i64],
+    dc_quant: i32,
+    ac_quant: i32,
+    tx_sz: u32,
+    bit_depth: u32,
+) -> u32
+    ensures { λ r. ⌜ Told quantizeAnswer coefsAfter (record { coefs = now (coefs .entry); dc = record { 0 = «dc_quant» }; ac = record { 0 = «ac_quant» }; size = «tx_sz»; depth = «bit_depth» }) r (now (coefs .exit)) ⌝ }
+{
+    let a = fwd_transform::quantize_block_tx(
+        coefs,
+        DcQuant(dc_quant),
+        AcQuant(ac_quant),
+        tx_sz,
+        bit_depth,
+    );
+    answers::code(a)
+}
+
+// Coefficients to tokens, at a small size and depth 8.
+#[no_mangle]
+pub extern "C" fn bracetwill_quantize_block(coefs: &mut [i64], dc_quant: i32, ac_quant: i32) -> u32
+    ensures { λ r. ⌜ Told quantizeAnswer coefsAfter (record { coefs = now (coefs .entry); dc = record { 0 = «dc_quant» }; ac = record { 0 = «ac_quant» }; size = 0; depth = 8 }) r (now (coefs .exit)) ⌝ }
+{
+    let a = fwd_transform::quantize_block(coefs, DcQuant(dc_quant), AcQuant(ac_quant));
+    answers::code(a)
+}
+
+// The greatest magnitude of a token; 0 for a depth that is not 8, 10 or 12.
+#[no_mangle]
+pub extern "C" fn bracetwill_max_codeable_coef(bit_depth: u32) -> i64
+    ensures { λ r. ⌜ r ≡ pos (codeable «bit_depth») ⌝ }
+{
+    quant::max_codeable_coef(bit_depth)
+}
+
+// The run's figures, at the front of the room for them.
+fn put_figures(room: &mut [u64], depth: u8, width: u16, height: u16, count: usize, touched: usize)
+    requires { ⌜ FIGURES ≤ length (now room) ⌝ }
+    ensures { λ _. ⌜ now (room .exit) ≡ depth ∷ width ∷ height ∷ count ∷ touched ∷ drop FIGURES (now (room .entry)) ⌝ }
+{
+    room[0] = depth as u64;
+    room[1] = width as u64;
+    room[2] = height as u64;
+    room[3] = count as u64;
+    room[4] = touched as u64;
+}
+
+// A run over a VBK file: the plane and the records' answers as `vbk::replay` leaves them, the run's figures at the front of `figures`.
+#[no_mangle]
+pub extern "C" fn bracetwill_replay(
+    file: &[u8],
+    samples: &mut [u16],
+    answers: &mut [u8],
+    figures: &mut [u64],
+) -> u32
+    ensures { λ r. ⌜ RunTold (now (file .entry)) (now (samples .entry)) (now (answers .entry)) (now (figures .entry)) r (now (samples .exit)) (now (answers .exit)) (now (figures .exit)) ⌝ }
+{
+    if figures.len() < FIGURES {
+        return answers::code(answers::Answer::Length);
+    }
+    let run = vbk::replay(file, samples, answers);
+    let answer = run.answer;
+    let number = answers::code(answer);
+    if number != 0 {
+        return number;
+    }
+    let fields = run.fields;
+    put_figures(
+        figures,
+        fields.depth,
+        fields.width,
+        fields.height,
+        run.count,
+        run.touched,
+    );
+    number
+}
+
+// A run over a VBK file and its text, which is left at the front of `out`; how long it is. 0 where a lent room is too short.
+#[no_mangle]
+pub extern "C" fn bracetwill_blockrun(
+    file: &[u8],
+    samples: &mut [u16],
+    answers: &mut [u8],
+    out: &mut [u8],
+) -> usize
+    ensures { λ r. ⌜ Printed (now (file .entry)) (now (samples .entry)) (now (answers .entry)) (now (out .entry)) r (now (samples .exit)) (now (answers .exit)) (now (out .exit)) ⌝ }
+{
+    vbk::blockrun(file, samples, answers, out)
 }
