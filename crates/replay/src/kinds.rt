@@ -4,6 +4,7 @@ use crate::drivers;
 use crate::parts;
 use crate::rows;
 use crate::verdict::Verdict;
+use crate::verdict::reached;
 
 pub fn verdict(kind: usize, line: &[u8], at: usize, numbers: &mut [i64]) -> Verdict {
     match kind {
@@ -20,10 +21,12 @@ pub fn verdict(kind: usize, line: &[u8], at: usize, numbers: &mut [i64]) -> Verd
         12 => rows::inverse_wht(line, at),
         20 => drivers::inverse_transform_2d(line, at, numbers),
         21 => drivers::inverse_transform_2d_reference(line, at, numbers),
+        22 => reached(line, replay_blocks::reconstruct_block(line, at, numbers)),
         23 => coder::forward_wht_2d(line, at, numbers),
         24 => coder::quantize_block_tx(line, at, numbers),
         25 => coder::quantize_block(line, at, numbers),
         26 => coder::max_codeable_coef(line, at),
+        30 => reached(line, replay_blocks::vbk_file(line, at, numbers)),
         _ => Verdict::Skipped,
     }
 }
