@@ -132,9 +132,18 @@ def program():
     return said.splitlines() + [os.path.join(ROOT, "target", "bin", "blockrun")]
 
 
+def words(usage, least, most):
+    """The words of the command; where there are too few or too many, or they ask for help, how the tool is used, and status 2."""
+    given = sys.argv[1:]
+    if not least <= len(given) <= most or "-h" in given or "--help" in given:
+        print(usage, file=sys.stderr)
+        sys.exit(2)
+    return given
+
+
 def guarded(main):
     """Runs a tool; what it cannot use is said on standard error, with status 1."""
     try:
         main()
-    except (Bad, OSError, UnicodeDecodeError) as e:
+    except (Bad, OSError, ValueError, subprocess.CalledProcessError) as e:
         sys.exit("%s: %s" % (os.path.basename(sys.argv[0]), e))
