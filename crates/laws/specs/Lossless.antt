@@ -13,8 +13,10 @@ use Rattle.answers.specs.declared.Answer.the-variants.{Done}
 use Rattle.answers.specs.Bad.{badDepth}
 use Rattle.quant.specs.declared.DcQuant.{DcQuant}
 use Rattle.quant.specs.declared.AcQuant.{AcQuant}
+use Rattle.quant.specs.Places.{dequantAll}
 use Rattle.plane.specs.declared.Plane.{Plane}
 use Rattle.plane.specs.Place.{placeOf, SamplesOf}
+use Rattle.plane.specs.Plane.{planeAfter}
 use Rattle.reconstruct.specs.Reconstruct.{Input, largest}
 
 -- a plane that holds the prediction, a place in it, a source of 4 by 4 samples, and the sixteen differences, row by row
@@ -83,3 +85,8 @@ differencesOf p samples x y source =
     tabulate
     (λ k. cond (ltb (y + k / 4) (p .height) && ltb (x + k % 4) (p .width)) (pos (source (k / 4) (k % 4)) -ℤ pos (getD samples (placeOf p (y + k / 4) (x + k % 4)) 0)) (pos 0))
     16
+
+-- what a decoder would show whose forward and inverse transforms both do nothing: the differences are the tokens, and their coefficients the residual
+unfoldable pub shownByNothing : Coded → List ℕ
+shownByNothing c =
+    planeAfter (c .plane) (largest (c .depth)) (c .x) (c .y) 4 (λ i j. getD (dequantAll 0 (c .dc) (c .ac) (c .differences)) (i * 4 + j) (pos 0)) (c .samples)
