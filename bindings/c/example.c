@@ -1,0 +1,31 @@
+/* A lossless block into a plane of 100s, and back: the source that the forward WHT was given comes out of reconstruction. */
+#include "bracetwill.h"
+#include <stdio.h>
+
+/* The answer in words, where it is a refusal. */
+static int refused(const char *call, uint32_t answer) {
+  if (answer == BRACETWILL_DONE) return 0;
+  fprintf(stderr, "%s: answer %u, %s\n", call, (unsigned)answer, bracetwill_answer_meaning(answer));
+  return 1;
+}
+
+int main(void) {
+  uint16_t plane[8 * 4];
+  for (int k = 0; k < 8 * 4; k++) plane[k] = 100;
+
+  /* a source block, less the 100s that the plane holds */
+  int64_t block[16];
+  for (int k = 0; k < 16; k++) block[k] = 10 * k - 75;
+  if (refused("forward WHT", bracetwill_forward_wht_2d(block, 16))) return 1;
+
+  /* lossless: the coefficients are tokens at quantizer 4, of which the inverse takes a quarter */
+  if (refused("reconstruction", bracetwill_reconstruct_block(plane, 8 * 4, 8, 4, 4, 0, 0, block, 16, 4, 4, BRACETWILL_DCT_DCT, true, 8)))
+    return 1;
+  for (int y = 0; y < 4; y++) {
+    for (int x = 0; x < 8; x++) printf("%4d", plane[y * 8 + x]);
+    printf("\n");
+  }
+
+  /* the same at a depth that there is not: the plane stays */
+  return !refused("reconstruction", bracetwill_reconstruct_block(plane, 8 * 4, 8, 4, 4, 0, 0, block, 16, 4, 4, BRACETWILL_DCT_DCT, true, 9));
+}

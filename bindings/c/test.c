@@ -1,0 +1,564 @@
+/* Every exported call from C: values of the scope document, every number that each call can give, and what was lent afterwards.
+ * printf is declared here, so that nothing is needed but the compiler's own headers and a C library to link with. */
+#include "bracetwill.h"
+
+int printf(const char *format, ...);
+
+static unsigned passed, failed;
+
+static void check(bool ok, const char *what, long long a, long long b) {
+  if (ok) {
+    passed++;
+    return;
+  }
+  failed++;
+  printf("FAILED: %s (%lld, %lld)\n", what, a, b);
+}
+
+static bool same(const void *a, const void *b, size_t bytes) {
+  const unsigned char *p = (const unsigned char *)a, *q = (const unsigned char *)b;
+  for (size_t k = 0; k < bytes; k++)
+    if (p[k] != q[k]) return false;
+  return true;
+}
+
+static void copy(void *to, const void *from, size_t bytes) {
+  for (size_t k = 0; k < bytes; k++) ((unsigned char *)to)[k] = ((const unsigned char *)from)[k];
+}
+
+static void equal(long long got, long long want, const char *what) { check(got == want, what, got, want); }
+
+/* Numbers of a list that are lent, and past them others that no call may reach. */
+enum { MOST = 1200 };
+static int64_t list[MOST], before[MOST];
+
+/* Small numbers everywhere, with a value at a place. */
+static void filled(size_t place, int64_t value) {
+  for (size_t k = 0; k < MOST; k++) list[k] = (int64_t)(k * 37 % 101) - 50;
+  list[place] = value;
+  copy(before, list, sizeof list);
+}
+
+static void zeros(void) {
+  for (size_t k = 0; k < MOST; k++) list[k] = 0;
+}
+
+typedef uint32_t driver(int64_t *, size_t, uint32_t, uint8_t, bool);
+
+static void driver_refused(driver *call, size_t len, uint32_t n, uint8_t type, bool lossless, size_t place, int64_t value, uint32_t want, const char *what) {
+  filled(place, value);
+  equal(call(list, len, n, type, lossless), want, what);
+  check(same(list, before, sizeof list), what, -1, (long long)n);
+}
+
+/* The 2D drivers: 2, 3, 4, 6 and 9, the lowest first. */
+static void drivers_refuse(driver *call) {
+  const int64_t beyond = BRACETWILL_COEF_LIMIT + 1;
+  const uint32_t sizes[] = {0, 1, 6, 7, UINT32_MAX};
+  for (size_t k = 0; k < 5; k++) driver_refused(call, 1024, sizes[k], 9, true, 0, beyond, BRACETWILL_SIZE, "driver: n");
+  for (uint32_t n = 3; n <= 5; n++) driver_refused(call, 0, n, 9, true, 0, beyond, BRACETWILL_LOSSLESS_SIZE, "driver: lossless");
+  for (uint32_t n = 2; n <= 5; n++) {
+    const size_t count = (size_t)1 << (2 * n);
+    driver_refused(call, 0, n, 4, false, 0, beyond, BRACETWILL_KIND, "driver: type 4");
+    driver_refused(call, 0, n, 255, false, 0, beyond, BRACETWILL_KIND, "driver: type 255");
+    driver_refused(call, count - 1, n, 0, false, 0, beyond, BRACETWILL_LENGTH, "driver: one short");
+    driver_refused(call, count, n, 0, false, count - 1, beyond, BRACETWILL_COEFFICIENT, "driver: last beyond");
+    driver_refused(call, count, n, 0, false, 0, -beyond, BRACETWILL_COEFFICIENT, "driver: first beyond");
+    driver_refused(call, MOST, n, 0, false, 1, INT64_MIN, BRACETWILL_COEFFICIENT, "driver: the least number");
+  }
+  for (uint8_t type = 1; type <= 3; type++) driver_refused(call, 1024, 5, type, false, 0, 0, BRACETWILL_KIND, "driver: ADST at 32 by 32");
+  equal(call(NULL, 0, 2, 0, false), BRACETWILL_LENGTH, "driver: no list");
+}
+
+/* DC-only blocks: 16 gives 1, 14 gives 0, -16 gives 0, 32 gives 1. */
+static void drivers_known(driver *call) {
+  const int64_t of[][2] = {{16, 1}, {14, 0}, {-16, 0}, {32, 1}};
+  for (size_t c = 0; c < 4; c++) {
+    filled(0, of[c][0]);
+    for (size_t k = 1; k < 16; k++) list[k] = 0;
+    equal(call(list, MOST, 2, 0, false), BRACETWILL_DONE, "driver: DC only");
+    for (size_t k = 0; k < 16; k++) equal(list[k], of[c][1], "driver: DC only, a residual");
+    check(same(list + 16, before + 16, sizeof list - 16 * sizeof *list), "driver: past the block", 0, 0);
+  }
+  /* lossless, 20: the rows take a quarter, 5, and so (3, 2, 2, 2), of which the columns make 2 and 1 */
+  zeros();
+  list[0] = 20;
+  equal(call(list, 16, 2, 255, true), BRACETWILL_DONE, "driver: lossless");
+  for (size_t k = 0; k < 16; k++) equal(list[k], k == 0 ? 2 : 1, "driver: lossless, a residual");
+  /* the limit itself is taken */
+  zeros();
+  list[0] = BRACETWILL_COEF_LIMIT;
+  list[1023] = -BRACETWILL_COEF_LIMIT;
+  equal(call(list, 1024, 5, 0, false), BRACETWILL_DONE, "driver: the limit");
+}
+
+/* The two drivers give one block, for every size and type. */
+static void drivers_agree(void) {
+  static int64_t other[MOST];
+  for (uint32_t n = 2; n <= 5; n++)
+    for (uint8_t type = 0; type < (n == 5 ? 1 : 4); type++)
+      for (size_t place = 0; place < 16; place++) {
+        filled(place, 1000 * (int64_t)place - 7000);
+        copy(other, list, sizeof list);
+        equal(bracetwill_inverse_transform_2d(list, MOST, n, type, false), BRACETWILL_DONE, "agree: fast");
+        equal(bracetwill_inverse_transform_2d_reference(other, MOST, n, type, false), BRACETWILL_DONE, "agree: reference");
+        check(same(list, other, sizeof list), "agree: the block", (long long)n, (long long)type);
+      }
+}
+
+/* What reconstruction is handed. */
+struct call {
+  size_t samples_len, width, height, x, y;
+  uint32_t tx_sz;
+  size_t tokens_len;
+  int32_t dc_quant, ac_quant;
+  uint8_t tx_type;
+  bool lossless;
+  uint32_t bit_depth;
+};
+
+enum { SAMPLES = 65536 + 64 };
+static uint16_t samples[SAMPLES], samples_before[SAMPLES];
+
+static uint32_t reconstruct(struct call c) {
+  return bracetwill_reconstruct_block(samples, c.samples_len, c.width, c.height, c.x, c.y, c.tx_sz, list, c.tokens_len, c.dc_quant,
+                                      c.ac_quant, c.tx_type, c.lossless, c.bit_depth);
+}
+
+static void plane_of(uint16_t value) {
+  for (size_t k = 0; k < SAMPLES; k++) samples[k] = value;
+  copy(samples_before, samples, sizeof samples);
+}
+
+static void reconstruct_refused(struct call c, size_t place, int64_t token, uint32_t want, const char *what) {
+  plane_of(4000);
+  filled(place, token);
+  equal(reconstruct(c), want, what);
+  check(same(samples, samples_before, sizeof samples), what, -1, 0);
+  check(same(list, before, sizeof list), what, -2, 0);
+}
+
+/* 1 to 9, the lowest first: each call is made worse in the place of a lower number than those of the calls before it. */
+static void reconstruct_refuses(void) {
+  const struct call good = {48, 8, 6, 1, 1, 0, 16, 4, 4, 0, false, 8};
+  struct call c = good;
+  c.ac_quant = 8160;
+  reconstruct_refused(c, 15, 16450, BRACETWILL_COEFFICIENT, "reconstruction: coefficient");
+  reconstruct_refused(c, 15, 16451, BRACETWILL_TOKEN, "reconstruction: token");
+  reconstruct_refused(c, 15, INT64_MIN, BRACETWILL_TOKEN, "reconstruction: the least token");
+  c.samples_len = 47;
+  reconstruct_refused(c, 15, 16451, BRACETWILL_PLANE, "reconstruction: one sample short");
+  c.samples_len = 49;
+  reconstruct_refused(c, 15, 16451, BRACETWILL_PLANE, "reconstruction: one sample more");
+  c.tokens_len = 15;
+  reconstruct_refused(c, 15, 16451, BRACETWILL_LENGTH, "reconstruction: one token short");
+  c.tokens_len = 17;
+  reconstruct_refused(c, 15, 16451, BRACETWILL_LENGTH, "reconstruction: one token more");
+  c.dc_quant = 0;
+  reconstruct_refused(c, 15, 16451, BRACETWILL_QUANTIZER, "reconstruction: DC quantizer 0");
+  c.dc_quant = 32768;
+  reconstruct_refused(c, 15, 16451, BRACETWILL_QUANTIZER, "reconstruction: DC quantizer 32768");
+  c.dc_quant = 4;
+  c.ac_quant = INT32_MIN;
+  reconstruct_refused(c, 15, 16451, BRACETWILL_QUANTIZER, "reconstruction: AC quantizer");
+  c.tx_type = 4;
+  reconstruct_refused(c, 15, 16451, BRACETWILL_KIND, "reconstruction: type");
+  c.tx_sz = 3;
+  c.tx_type = 1;
+  reconstruct_refused(c, 15, 16451, BRACETWILL_KIND, "reconstruction: ADST at 32 by 32");
+  c.lossless = true;
+  reconstruct_refused(c, 15, 16451, BRACETWILL_LOSSLESS_SIZE, "reconstruction: lossless");
+  c.tx_sz = 4;
+  reconstruct_refused(c, 15, 16451, BRACETWILL_SIZE, "reconstruction: size");
+  c.bit_depth = 9;
+  reconstruct_refused(c, 15, 16451, BRACETWILL_DEPTH, "reconstruction: depth");
+  c = good;
+  c.width = 65536;
+  c.height = 1;
+  c.samples_len = 65536;
+  reconstruct_refused(c, 0, 0, BRACETWILL_PLANE, "reconstruction: width above its limit");
+  c.width = 1;
+  c.height = 65536;
+  reconstruct_refused(c, 0, 0, BRACETWILL_PLANE, "reconstruction: height above its limit");
+  c.width = c.height = (size_t)1 << 63;
+  c.samples_len = 0;
+  reconstruct_refused(c, 0, 0, BRACETWILL_PLANE, "reconstruction: width times height wraps to 0");
+  equal(bracetwill_reconstruct_block(NULL, 0, 0, 0, 0, 0, 0, NULL, 0, 4, 4, 0, false, 8), BRACETWILL_LENGTH, "reconstruction: no lists");
+}
+
+/* What stands at each limit is taken. */
+static void reconstruct_takes(void) {
+  struct call c = {36, 6, 6, 0, 0, 0, 16, 1, 8159, 0, false, 8};
+  plane_of(100);
+  zeros();
+  list[15] = 16450;
+  equal(reconstruct(c), BRACETWILL_DONE, "reconstruction: 134215550");
+  c.ac_quant = 8160;
+  equal(reconstruct(c), BRACETWILL_COEFFICIENT, "reconstruction: 8160");
+  c.tx_sz = 3;
+  c.tokens_len = 1024;
+  c.ac_quant = 16318;
+  equal(reconstruct(c), BRACETWILL_DONE, "reconstruction: 16318 at 32 by 32");
+  c.ac_quant = 16319;
+  equal(reconstruct(c), BRACETWILL_COEFFICIENT, "reconstruction: 16319 at 32 by 32");
+  const struct call widest = {65535, 65535, 1, 65533, 0, 0, 16, 4, 4, 0, true, 8};
+  plane_of(100);
+  zeros();
+  list[0] = 5;
+  equal(reconstruct(widest), BRACETWILL_DONE, "reconstruction: the widest plane");
+  samples_before[65533] = 102;
+  samples_before[65534] = 101;
+  check(same(samples, samples_before, sizeof samples), "reconstruction: the widest plane's end", 0, 0);
+  const struct call none = {0, 0, 65535, 0, 0, 0, 16, 4, 4, 0, true, 8};
+  equal(reconstruct(none), BRACETWILL_DONE, "reconstruction: no sample");
+  equal(bracetwill_reconstruct_block(NULL, 0, 0, 0, 7, 7, 0, list, 16, 4, 4, 0, true, 8), BRACETWILL_DONE, "reconstruction: no plane");
+}
+
+/* A plane of 6 by 5: at (4, 3) two rows and two columns are written, at x = 6 none. */
+static void reconstruct_cut(void) {
+  struct call c = {30, 6, 5, 4, 3, 0, 16, 4, 4, 9, true, 8};
+  plane_of(100);
+  zeros();
+  list[0] = 5;
+  equal(reconstruct(c), BRACETWILL_DONE, "cut: done");
+  samples_before[3 * 6 + 4] = 102;
+  samples_before[3 * 6 + 5] = samples_before[4 * 6 + 4] = samples_before[4 * 6 + 5] = 101;
+  check(same(samples, samples_before, sizeof samples), "cut: the plane", 0, 0);
+  c.x = 6;
+  equal(reconstruct(c), BRACETWILL_DONE, "cut: at the right edge");
+  c.x = SIZE_MAX;
+  c.y = SIZE_MAX;
+  equal(reconstruct(c), BRACETWILL_DONE, "cut: far out");
+  check(same(samples, samples_before, sizeof samples), "cut: the plane stays", 0, 0);
+}
+
+/* Samples are clipped to the depth, above its range too, where the residual is zero. */
+static void reconstruct_clips(void) {
+  const uint32_t depths[] = {8, 10, 12};
+  const uint16_t tops[] = {255, 1023, 4095};
+  for (size_t d = 0; d < 3; d++) {
+    struct call c = {16, 4, 4, 0, 0, 0, 16, 4, 4, 0, false, depths[d]};
+    plane_of(65535);
+    zeros();
+    equal(reconstruct(c), BRACETWILL_DONE, "clip: zero residual");
+    for (size_t k = 0; k < 16; k++) equal(samples[k], tops[d], "clip: a sample");
+    equal(samples[16], 65535, "clip: past the plane");
+    list[0] = -16450;
+    c.dc_quant = 100;
+    equal(reconstruct(c), BRACETWILL_DONE, "clip: below zero");
+    for (size_t k = 0; k < 16; k++) equal(samples[k], 0, "clip: a sample of 0");
+  }
+}
+
+/* At 32 by 32 the product is halved toward zero: token 801 at 7 is 2803 and -801 is -2803, as the driver shows. */
+static void reconstruct_halves(void) {
+  for (int sign = -1; sign <= 1; sign += 2) {
+    const struct call c = {1024, 32, 32, 0, 0, 3, 1024, 7, 1, 0, false, 8};
+    plane_of(100);
+    zeros();
+    list[0] = 801 * sign;
+    equal(reconstruct(c), BRACETWILL_DONE, "halves: reconstruction");
+    list[0] = 2803 * sign;
+    equal(bracetwill_inverse_transform_2d(list, 1024, 5, 0, false), BRACETWILL_DONE, "halves: driver");
+    check(list[0] != 0, "halves: a residual", (long long)list[0], 0);
+    for (size_t k = 0; k < 1024; k++) equal(samples[k], 100 + list[k], "halves: a sample");
+  }
+}
+
+static void forward_wht(void) {
+  zeros();
+  list[0] = 5;
+  list[16] = 77;
+  equal(bracetwill_forward_wht_2d(list, 16), BRACETWILL_DONE, "forward WHT");
+  for (size_t k = 0; k < 16; k++) equal(list[k], k == 0 ? 2 : 1, "forward WHT: a number");
+  equal(list[16], 77, "forward WHT: past the block");
+  const size_t lens[] = {0, 15, 17, MOST};
+  for (size_t k = 0; k < 4; k++) {
+    filled(0, BRACETWILL_WHT_LIMIT + 1);
+    equal(bracetwill_forward_wht_2d(list, lens[k]), BRACETWILL_LENGTH, "forward WHT: length");
+    check(same(list, before, sizeof list), "forward WHT: length, unchanged", 0, 0);
+  }
+  const int64_t beyond[] = {BRACETWILL_WHT_LIMIT + 1, -BRACETWILL_WHT_LIMIT - 1, INT64_MAX, INT64_MIN};
+  for (size_t k = 0; k < 4; k++) {
+    filled(15, beyond[k]);
+    equal(bracetwill_forward_wht_2d(list, 16), BRACETWILL_COEFFICIENT, "forward WHT: beyond");
+    check(same(list, before, sizeof list), "forward WHT: beyond, unchanged", 0, 0);
+  }
+  filled(15, BRACETWILL_WHT_LIMIT);
+  equal(bracetwill_forward_wht_2d(list, 16), BRACETWILL_DONE, "forward WHT: the limit");
+}
+
+static void quantize_refused(size_t len, int32_t dc, int32_t ac, uint32_t size, uint32_t depth, int64_t value, uint32_t want, const char *what) {
+  filled(len == 0 ? 0 : len - 1, value);
+  equal(bracetwill_quantize_block_tx(list, len, dc, ac, size, depth), want, what);
+  check(same(list, before, sizeof list), what, -1, 0);
+  /* the short call has no size and no depth to refuse */
+  if (size > 3 || (depth != 8 && depth != 10 && depth != 12)) return;
+  equal(bracetwill_quantize_block(list, len, dc, ac), want, what);
+  check(same(list, before, sizeof list), what, -2, 0);
+}
+
+static void quantizers(void) {
+  const int64_t beyond = BRACETWILL_COEF_LIMIT + 1;
+  const int64_t of[][2] = {{2, 0}, {3, 1}, {6, 1}, {7, 2}, {-2, 0}, {-3, -1}, {-6, -1}, {-7, -2}};
+  for (size_t k = 0; k < 8; k++) list[k] = of[k][0];
+  equal(bracetwill_quantize_block(list, 8, 4, 4), BRACETWILL_DONE, "quantizer 4");
+  for (size_t k = 0; k < 8; k++) equal(list[k], of[k][1], "quantizer 4: a token");
+  list[0] = list[1] = 2;
+  equal(bracetwill_quantize_block_tx(list, 2, 3, 5, 3, 8), BRACETWILL_DONE, "quantizer 3 at 32 by 32");
+  equal(list[0], 1, "quantizer 3 at 32 by 32: token 0 is of the DC quantizer");
+  equal(list[1], 1, "quantizer 5 at 32 by 32");
+  list[0] = list[1] = 9;
+  equal(bracetwill_quantize_block_tx(list, 2, 3, 5, 0, 10), BRACETWILL_DONE, "DC and AC");
+  equal(list[0], 3, "DC: a token");
+  equal(list[1], 2, "AC: a token");
+  const uint32_t depths[] = {8, 10, 12};
+  for (size_t d = 0; d < 3; d++) {
+    list[0] = BRACETWILL_COEF_LIMIT;
+    list[1] = -BRACETWILL_COEF_LIMIT;
+    equal(bracetwill_quantize_block_tx(list, 2, 1, 1, 0, depths[d]), BRACETWILL_DONE, "quantizer: the limit");
+    equal(list[0], bracetwill_max_codeable_coef(depths[d]), "quantizer: the cap");
+    equal(list[1], -bracetwill_max_codeable_coef(depths[d]), "quantizer: the cap below zero");
+  }
+  equal(bracetwill_quantize_block(NULL, 0, 1, 1), BRACETWILL_DONE, "quantizer: no list");
+  equal(bracetwill_quantize_block_tx(NULL, 0, 1, 1, 3, 12), BRACETWILL_DONE, "quantizer: no list, any size");
+  quantize_refused(16, 1, 1, 0, 8, beyond, BRACETWILL_COEFFICIENT, "quantizer: beyond");
+  quantize_refused(1024, 1, 1, 3, 12, -beyond, BRACETWILL_COEFFICIENT, "quantizer: last beyond");
+  quantize_refused(1024, 1, 1, 3, 12, INT64_MIN, BRACETWILL_COEFFICIENT, "quantizer: the least number");
+  quantize_refused(1025, 1, 1, 0, 8, beyond, BRACETWILL_LENGTH, "quantizer: length");
+  quantize_refused(1025, 0, 1, 0, 8, beyond, BRACETWILL_QUANTIZER, "quantizer: DC 0");
+  quantize_refused(1025, 1, 32768, 0, 8, beyond, BRACETWILL_QUANTIZER, "quantizer: AC 32768");
+  quantize_refused(0, INT32_MIN, INT32_MAX, 0, 8, 0, BRACETWILL_QUANTIZER, "quantizer: of no list");
+  quantize_refused(1025, 0, 0, 4, 8, beyond, BRACETWILL_SIZE, "quantizer: size");
+  quantize_refused(1025, 0, 0, 4, 9, beyond, BRACETWILL_DEPTH, "quantizer: depth");
+  equal(bracetwill_max_codeable_coef(8), 16450, "codeable limit at 8");
+  equal(bracetwill_max_codeable_coef(10), 65602, "codeable limit at 10");
+  equal(bracetwill_max_codeable_coef(12), 262210, "codeable limit at 12");
+  const uint32_t no_depths[] = {0, 7, 9, 11, 13, 57, 64, UINT32_MAX};
+  for (size_t k = 0; k < 8; k++) equal(bracetwill_max_codeable_coef(no_depths[k]), 0, "codeable limit of no depth");
+}
+
+/* A VBK file, built byte by byte. */
+static uint8_t file[70000];
+static size_t file_len;
+
+static void u8(unsigned v) { file[file_len++] = (uint8_t)v; }
+static void u16(unsigned v) {
+  u8(v & 255);
+  u8(v >> 8);
+}
+
+static void header(unsigned depth, unsigned width, unsigned height) {
+  file_len = 0;
+  u8('V');
+  u8('B');
+  u8('K');
+  u16(1);
+  u8(depth);
+  u16(width);
+  u16(height);
+  for (unsigned k = 0; k < width * height; k++) u16(100);
+}
+
+/* A record at (0, 0), token `first` and zeros. */
+static void record(unsigned size, unsigned type, unsigned lossless, unsigned dc, unsigned ac, int32_t first) {
+  u16(0);
+  u16(0);
+  u8(size);
+  u8(type);
+  u8(lossless);
+  u16(dc);
+  u16(ac);
+  for (unsigned k = 0; k < 16u << (2 * size); k++) {
+    const uint32_t token = k == 0 ? (uint32_t)first : 0;
+    u16(token & 65535);
+    u16(token >> 16);
+  }
+}
+
+/* The scope document's listing. */
+static void listing(void) {
+  header(8, 4, 4);
+  record(0, 0, 1, 4, 4, 5);
+}
+
+static uint8_t answers[BRACETWILL_ANSWERS_ROOM + 8];
+static uint64_t figures[BRACETWILL_FIGURES + 3];
+static uint8_t text[BRACETWILL_TEXT_ROOM + 8];
+
+static void rooms(void) {
+  plane_of(7);
+  for (size_t k = 0; k < sizeof answers; k++) answers[k] = 200;
+  for (size_t k = 0; k < BRACETWILL_FIGURES + 3; k++) figures[k] = 1000 + k;
+  for (size_t k = 0; k < sizeof text; k++) text[k] = '#';
+}
+
+/* Samples, answers and figures past the first of each are as `rooms` left them. */
+static bool kept(size_t of_samples, size_t of_answers, size_t of_figures, size_t of_text) {
+  for (size_t k = of_samples; k < SAMPLES; k++)
+    if (samples[k] != 7) return false;
+  for (size_t k = of_answers; k < sizeof answers; k++)
+    if (answers[k] != 200) return false;
+  for (size_t k = of_figures; k < BRACETWILL_FIGURES + 3; k++)
+    if (figures[k] != 1000 + k) return false;
+  for (size_t k = of_text; k < sizeof text; k++)
+    if (text[k] != '#') return false;
+  return true;
+}
+
+static uint32_t replay(void) {
+  return bracetwill_replay(file, file_len, samples, BRACETWILL_SAMPLES_ROOM, answers, BRACETWILL_ANSWERS_ROOM, figures, BRACETWILL_FIGURES);
+}
+
+static size_t blockrun(void) {
+  return bracetwill_blockrun(file, file_len, samples, BRACETWILL_SAMPLES_ROOM, answers, BRACETWILL_ANSWERS_ROOM, text, BRACETWILL_TEXT_ROOM);
+}
+
+static size_t length(const char *s) {
+  size_t n = 0;
+  while (s[n] != 0) n++;
+  return n;
+}
+
+static void prints(const char *want, size_t of_samples, size_t of_answers, const char *what) {
+  rooms();
+  equal((long long)blockrun(), (long long)length(want), what);
+  check(same(text, want, length(want)), what, -1, 0);
+  check(kept(of_samples, of_answers, 0, length(want)), what, -2, 0);
+}
+
+/* A file whose header is refused: the run's answer, and the text `E number`. */
+static void header_refused(uint32_t want, const char *what) {
+  rooms();
+  equal(replay(), want, what);
+  check(kept(0, 0, 0, 0), what, -1, 0);
+  const char one[] = {'E', ' ', (char)('0' + want % 10), '\n', 0};
+  const char two[] = {'E', ' ', '1', (char)('0' + want % 10), '\n', 0};
+  prints(want < 10 ? one : two, 0, 0, what);
+}
+
+static void headers_refused(void) {
+  listing();
+  file_len = 65536;
+  header_refused(BRACETWILL_TOO_LARGE, "VBK: 65536 bytes");
+  listing();
+  file_len = 9;
+  header_refused(BRACETWILL_CUT_SHORT, "VBK: 9 bytes");
+  file_len = 0;
+  header_refused(BRACETWILL_CUT_SHORT, "VBK: no byte");
+  for (size_t k = 0; k < 3; k++) {
+    listing();
+    file[k] ^= 32;
+    header_refused(BRACETWILL_MARK, "VBK: mark");
+  }
+  listing();
+  file[4] = 1;
+  header_refused(BRACETWILL_VERSION, "VBK: version");
+  header(9, 4, 4);
+  header_refused(BRACETWILL_DEPTH, "VBK: depth");
+  header(8, 0, 4);
+  header_refused(BRACETWILL_TOO_LARGE, "VBK: no sample");
+  header(8, 4097, 1);
+  header_refused(BRACETWILL_TOO_LARGE, "VBK: 4097 samples");
+  header(8, 4, 4);
+  file_len--;
+  header_refused(BRACETWILL_CUT_SHORT, "VBK: samples cut short");
+  rooms();
+  equal(bracetwill_replay(NULL, 0, samples, BRACETWILL_SAMPLES_ROOM, answers, BRACETWILL_ANSWERS_ROOM, figures, BRACETWILL_FIGURES),
+        BRACETWILL_CUT_SHORT, "VBK: no file");
+}
+
+static void rooms_refused(void) {
+  const size_t full[3] = {BRACETWILL_SAMPLES_ROOM, BRACETWILL_ANSWERS_ROOM, BRACETWILL_FIGURES};
+  for (size_t r = 0; r < 3; r++)
+    for (size_t less = 0; less < 2; less++) {
+      size_t room[3];
+      copy(room, full, sizeof room);
+      room[r] = less == 0 ? full[r] - 1 : 0;
+      listing();
+      rooms();
+      equal(bracetwill_replay(file, file_len, samples, room[0], answers, room[1], figures, room[2]), BRACETWILL_LENGTH, "room of a run");
+      check(kept(0, 0, 0, 0), "room of a run: unchanged", (long long)r, 0);
+      const size_t bytes = r < 2 ? BRACETWILL_TEXT_ROOM : less == 0 ? BRACETWILL_TEXT_ROOM - 1 : 0;
+      equal((long long)bracetwill_blockrun(file, file_len, samples, room[0], answers, room[1], text, bytes), 0, "room of a text");
+      check(kept(0, 0, 0, 0), "room of a text: unchanged", (long long)r, 0);
+    }
+}
+
+static void listing_runs(void) {
+  listing();
+  rooms();
+  equal(replay(), BRACETWILL_DONE, "listing: done");
+  for (size_t k = 0; k < 16; k++) equal(samples[k], k == 0 ? 102 : 101, "listing: a sample");
+  equal(answers[0], 0, "listing: the record's answer");
+  const uint64_t want[BRACETWILL_FIGURES] = {8, 4, 4, 1, 16};
+  for (size_t k = 0; k < BRACETWILL_FIGURES; k++) equal((long long)figures[k], (long long)want[k], "listing: a figure");
+  check(kept(16, 1, BRACETWILL_FIGURES, 0), "listing: the rest stays", 0, 0);
+  prints("VBK 1 8 4 4\nB 0 0\nS 102 101 101 101\nS 101 101 101 101\nS 101 101 101 101\nS 101 101 101 101\nT 16\n", 16, 1, "listing: the text");
+  /* rooms larger than is needed do the same */
+  rooms();
+  equal(bracetwill_replay(file, file_len, samples, SAMPLES, answers, sizeof answers, figures, BRACETWILL_FIGURES + 3), BRACETWILL_DONE, "large rooms");
+  check(kept(16, 1, BRACETWILL_FIGURES, 0), "large rooms: the rest stays", 0, 0);
+}
+
+/* Every answer that a record can have; reading goes on after all but the last. */
+static void records_answered(void) {
+  header(8, 1, 1);
+  const uint8_t want[] = {0, 14, 3, 4, 4, 5, 5, 8, 9, 0, 12};
+  record(0, 9, 1, 4, 4, 4);
+  record(0, 0, 2, 4, 4, 0);
+  record(1, 0, 1, 4, 4, 0);
+  record(0, 4, 0, 4, 4, 0);
+  record(3, 1, 0, 4, 4, 0);
+  record(0, 0, 0, 0, 4, 0);
+  record(0, 0, 0, 4, 32768, 0);
+  record(0, 0, 0, 4, 4, -16451);
+  record(0, 0, 0, 8160, 1, 16450);
+  record(3, 0, 0, 4, 4, 0);
+  record(0, 0, 1, 4, 4, 0);
+  file_len--;
+  rooms();
+  equal(replay(), BRACETWILL_DONE, "records: done");
+  equal((long long)figures[BRACETWILL_FIGURE_RECORDS], sizeof want, "records: how many");
+  equal((long long)figures[BRACETWILL_FIGURE_TOUCHED], 16 + 1024, "records: the touched count");
+  for (size_t k = 0; k < sizeof want; k++) equal(answers[k], want[k], "records: an answer");
+  check(kept(1, sizeof want, BRACETWILL_FIGURES, 0), "records: the rest stays", 0, 0);
+  header(8, 1, 1);
+  record(4, 0, 0, 4, 4, 0);
+  record(0, 0, 0, 4, 4, 0);
+  prints("VBK 1 8 1 1\nB 0 2\nS 100\nT 0\n", 1, 1, "records: a size above 3 ends the reading");
+  header(8, 1, 1);
+  for (size_t k = 0; k < 10; k++) u8(0);
+  prints("VBK 1 8 1 1\nB 0 12\nS 100\nT 0\n", 1, 1, "records: 10 bytes");
+}
+
+static void meanings(void) {
+  for (uint32_t k = 0; k <= BRACETWILL_LOSSLESS_BYTE; k++)
+    for (uint32_t j = 0; j <= BRACETWILL_LOSSLESS_BYTE + 1; j++) {
+      const char *a = bracetwill_answer_meaning(k), *b = bracetwill_answer_meaning(j);
+      const bool alike = length(a) == length(b) && same(a, b, length(a));
+      check(alike == (k == j), "each number has its own meaning", k, j);
+    }
+}
+
+int main(void) {
+  drivers_refuse(bracetwill_inverse_transform_2d);
+  drivers_refuse(bracetwill_inverse_transform_2d_reference);
+  drivers_known(bracetwill_inverse_transform_2d);
+  drivers_known(bracetwill_inverse_transform_2d_reference);
+  drivers_agree();
+  reconstruct_refuses();
+  reconstruct_takes();
+  reconstruct_cut();
+  reconstruct_clips();
+  reconstruct_halves();
+  forward_wht();
+  quantizers();
+  headers_refused();
+  rooms_refused();
+  listing_runs();
+  records_answered();
+  meanings();
+  printf("%u passed, %u failed\n", passed, failed);
+  return failed != 0;
+}
