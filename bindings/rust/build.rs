@@ -1,0 +1,50 @@
+//! Finds the archive of proved calls, target/staticlib/libexports.a, and has the crate linked with it.
+//! BRACETWILL_LIB_DIR names a folder that has it already; else bindings/archive looks whether it is there and no older than the
+//! sources, and else proves and writes it by `rt staticlib exports`, which needs the Rattle kit.
+use std::path::{Path, PathBuf};
+use std::process::Command;
+
+fn main() {
+    println!("cargo::rerun-if-env-changed=BRACETWILL_LIB_DIR");
+    if let Err(why) = link() {
+        println!("cargo::error={why}");
+    }
+}
+
+fn link() -> Result<(), String> {
+    let of = |name: &str| std::env::var(name).map_err(|_| format!("cargo did not set {name}"));
+    let (arch, os) = (of("CARGO_CFG_TARGET_ARCH")?, of("CARGO_CFG_TARGET_OS")?);
+    if arch != "x86_64" || os != "linux" {
+        return Err(format!(
+            "the archive of Bracetwill is x86-64 Linux code and cannot be linked into a program for {arch} {os}. \
+             Build with --target x86_64-unknown-linux-gnu and run the program under an emulator (bindings/README.md)"
+        ));
+    }
+    let dir = match std::env::var_os("BRACETWILL_LIB_DIR") {
+        Some(dir) => PathBuf::from(dir),
+        None => written(&Path::new(&of("CARGO_MANIFEST_DIR")?).join("../.."))?,
+    };
+    let archive = dir.join("libexports.a");
+    if !archive.is_file() {
+        return Err(format!("there is no {}", archive.display()));
+    }
+    println!("cargo::rerun-if-changed={}", archive.display());
+    println!("cargo::rustc-link-search=native={}", dir.display());
+    println!("cargo::rustc-link-lib=static=exports");
+    Ok(())
+}
+
+/// The folder of the archive in the repository, written anew where it has to be.
+fn written(root: &Path) -> Result<PathBuf, String> {
+    for sources in ["crates", "crates.txt", "bindings/archive"] {
+        println!("cargo::rerun-if-changed={}", root.join(sources).display());
+    }
+    let made = Command::new("sh").arg(root.join("bindings/archive")).output();
+    let made = made.map_err(|e| format!("bindings/archive could not be run: {e}"))?;
+    if !made.status.success() {
+        let said = String::from_utf8_lossy(if made.stderr.is_empty() { &made.stdout } else { &made.stderr }).into_owned();
+        let last = said.lines().last().unwrap_or("nothing was said");
+        return Err(format!("the archive could not be written: {last}. Set BRACETWILL_LIB_DIR to a folder that has libexports.a"));
+    }
+    Ok(root.join("target/staticlib"))
+}

@@ -1,0 +1,239 @@
+//! Our calls against the Rust itself (oracle/rust, unchanged) and the scope document's refusals (oracle/harness/rules.rs), on the
+//! systematic cases of oracle/harness and as many random ones as asked for: `oracle [SEED] [COUNT]`. Prints how many of each call were alike.
+#![allow(dead_code)]
+#[path = "../../../oracle/rust/fwd_transform.rs"]
+mod fwd_transform;
+#[path = "../../../oracle/rust/idct.rs"]
+mod idct;
+#[path = "../../../oracle/rust/intra.rs"]
+mod intra;
+#[path = "../../../oracle/rust/reconstruct.rs"]
+mod reconstruct;
+
+#[path = "../../../oracle/harness/cases.rs"]
+mod cases;
+#[path = "../../../oracle/harness/files.rs"]
+mod files;
+#[path = "../../../oracle/harness/line.rs"]
+mod line;
+#[path = "../../../oracle/harness/rng.rs"]
+mod rng;
+#[path = "../../../oracle/harness/rules.rs"]
+mod rules;
+#[path = "../../../oracle/harness/vbk.rs"]
+mod vbk;
+
+use bracetwill::Refusal;
+use bracetwill::reconstruct::Samples;
+use line::Call;
+use std::collections::BTreeMap;
+use std::panic::{AssertUnwindSafe, catch_unwind};
+
+/// The Rust's own plane, lent to our call as a decoder would.
+impl Samples for intra::Plane {
+    fn width(&self) -> usize {
+        self.width()
+    }
+
+    fn height(&self) -> usize {
+        self.height()
+    }
+
+    fn samples_mut(&mut self) -> &mut [u16] {
+        self.samples_mut()
+    }
+}
+
+/// A plane whose samples need not be width × height.
+#[derive(Clone, PartialEq)]
+struct Lent {
+    width: usize,
+    height: usize,
+    samples: Vec<u16>,
+}
+
+impl Samples for Lent {
+    fn width(&self) -> usize {
+        self.width
+    }
+
+    fn height(&self) -> usize {
+        self.height
+    }
+
+    fn samples_mut(&mut self) -> &mut [u16] {
+        &mut self.samples
+    }
+}
+
+fn number(result: Result<(), Refusal>) -> u8 {
+    result.err().map_or(0, |r| r.number() as u8)
+}
+
+/// One list in place. Taken: both sides' calls of one name give one list, and `try_` says so. Refused: `try_` gives the number, the call
+/// of the Rust's name panics, and neither changes the list.
+fn in_place(
+    list: &[i64],
+    want: u8,
+    theirs: impl Fn(&mut [i64]),
+    ours: impl Fn(&mut [i64]),
+    tried: impl Fn(&mut [i64]) -> Result<(), Refusal>,
+) -> bool {
+    let (mut a, mut b, mut c) = (list.to_vec(), list.to_vec(), list.to_vec());
+    if want == 0 {
+        theirs(&mut a);
+        ours(&mut b);
+    } else if catch_unwind(AssertUnwindSafe(|| ours(&mut b))).is_ok() {
+        return false;
+    }
+    number(tried(&mut c)) == want && a == b && a == c
+}
+
+fn recon(c: &Call) -> bool {
+    let a = |i: usize| c.args[i];
+    let (x, y, tx_sz, tx_type, lossless) = (a(0) as usize, a(1) as usize, a(2) as u32, a(3) as u8, a(4) != 0);
+    let (depth, dc, ac, width, height) = (a(5) as u32, a(6) as i32, a(7) as i32, a(8) as usize, a(9) as usize);
+    let tokens = &c.lists[0];
+    let want = rules::reconstruct(&rules::Recon {
+        x: x as u64,
+        y: y as u64,
+        size: tx_sz,
+        tx_type,
+        lossless,
+        depth,
+        dc,
+        ac,
+        width: width as u64,
+        height: height as u64,
+        tokens,
+        samples: c.lists[1].len(),
+    });
+    let before = Lent { width, height, samples: c.lists[1].iter().map(|s| *s as u16).collect() };
+    let mut lent = before.clone();
+    let got = number(bracetwill::reconstruct::try_reconstruct_block(&mut lent, x, y, tx_sz, tokens, dc, ac, tx_type, lossless, depth));
+    if got != want {
+        return false;
+    }
+    if want != 0 {
+        let panics = catch_unwind(AssertUnwindSafe(|| {
+            bracetwill::reconstruct::reconstruct_block(&mut lent, x, y, tx_sz, tokens, dc, ac, tx_type, lossless, depth)
+        }));
+        return panics.is_err() && lent == before;
+    }
+    let mut theirs = intra::Plane::new(width, height);
+    theirs.samples_mut().copy_from_slice(&before.samples);
+    let mut ours = theirs.clone();
+    let mut own = bracetwill::intra::Plane::new(width, height);
+    own.samples_mut().copy_from_slice(&before.samples);
+    reconstruct::reconstruct_block(&mut theirs, x, y, tx_sz, tokens, dc, ac, tx_type, lossless, depth);
+    bracetwill::reconstruct::reconstruct_block(&mut ours, x, y, tx_sz, tokens, dc, ac, tx_type, lossless, depth);
+    bracetwill::reconstruct::reconstruct_block(&mut own, x, y, tx_sz, tokens, dc, ac, tx_type, lossless, depth);
+    theirs.samples() == ours.samples() && theirs.samples() == own.samples() && theirs.samples() == lent.samples
+}
+
+fn file(c: &Call) -> bool {
+    let bytes: Vec<u8> = c.lists[0].iter().map(|b| *b as u8).collect();
+    let want = vbk::replay(&bytes);
+    let alike = match bracetwill::vbk::replay(&bytes) {
+        Err(r) => r.number() == u32::from(want.header),
+        Ok(run) => {
+            want.header == 0
+                && run.bit_depth == u32::from(want.depth)
+                && (run.width, run.height) == (want.width.into(), want.height.into())
+                && run.samples == want.samples
+                && run.answers.iter().map(|a| number(*a)).eq(want.answers.iter().copied())
+                && run.touched == want.touched
+        }
+    };
+    alike && bracetwill::vbk::blockrun(&bytes) == vbk::text(&want)
+}
+
+/// The call's name, its answer by the rules, and whether all is alike; nothing for the parts under the public calls.
+fn compare(c: &Call) -> Option<(&'static str, bool)> {
+    use bracetwill::fwd_transform as fwd;
+    use bracetwill::idct as inverse;
+    let name = line::shape(c.kind)?.name;
+    let a = |i: usize| c.args[i];
+    let alike = match c.kind {
+        20 | 21 => {
+            let (n, tx_type, lossless) = (a(0) as u32, a(1) as u8, a(2) != 0);
+            let want = rules::driver(n, tx_type, lossless, &c.lists[0]);
+            if c.kind == 20 {
+                in_place(
+                    &c.lists[0],
+                    want,
+                    |l| idct::inverse_transform_2d(l, n, tx_type, lossless),
+                    |l| inverse::inverse_transform_2d(l, n, tx_type, lossless),
+                    |l| inverse::try_inverse_transform_2d(l, n, tx_type, lossless),
+                )
+            } else {
+                in_place(
+                    &c.lists[0],
+                    want,
+                    |l| idct::inverse_transform_2d_reference(l, n, tx_type, lossless),
+                    |l| inverse::inverse_transform_2d_reference(l, n, tx_type, lossless),
+                    |l| inverse::try_inverse_transform_2d_reference(l, n, tx_type, lossless),
+                )
+            }
+        }
+        22 => recon(c),
+        23 => in_place(&c.lists[0], rules::forward_wht(&c.lists[0]), fwd_transform::forward_wht_2d, fwd::forward_wht_2d, fwd::try_forward_wht_2d),
+        24 => {
+            let (dc, ac, size, depth) = (a(0) as i32, a(1) as i32, a(2) as u32, a(3) as u32);
+            in_place(
+                &c.lists[0],
+                rules::quantize_block_tx(dc, ac, size, depth, &c.lists[0]),
+                |l| fwd_transform::quantize_block_tx(l, dc, ac, size, depth),
+                |l| fwd::quantize_block_tx(l, dc, ac, size, depth),
+                |l| fwd::try_quantize_block_tx(l, dc, ac, size, depth),
+            )
+        }
+        25 => {
+            let (dc, ac) = (a(0) as i32, a(1) as i32);
+            in_place(
+                &c.lists[0],
+                rules::quantize_block(dc, ac, &c.lists[0]),
+                |l| fwd_transform::quantize_block(l, dc, ac),
+                |l| fwd::quantize_block(l, dc, ac),
+                |l| fwd::try_quantize_block(l, dc, ac),
+            )
+        }
+        26 => {
+            let depth = a(0) as u32;
+            let want = if rules::good_depth(depth) { fwd_transform::max_codeable_coef(depth) } else { 0 };
+            fwd::max_codeable_coef(depth) == want
+        }
+        30 => file(c),
+        _ => return None,
+    };
+    Some((name, alike))
+}
+
+fn main() {
+    let mut words = std::env::args().skip(1).filter_map(|w| w.parse::<u64>().ok());
+    let (seed, count) = (words.next().unwrap_or(1), words.next().unwrap_or(40_000));
+    std::panic::set_hook(Box::new(|_| {})); // each refusal is asked for by the panicking call too
+    let mut tally: BTreeMap<&str, [u64; 2]> = BTreeMap::new();
+    let mut put = |c: Call| {
+        if let Some((name, alike)) = compare(&c) {
+            let of = tally.entry(name).or_default();
+            of[usize::from(!alike)] += 1;
+            if !alike && of[1] == 1 {
+                println!("{name}: differs first at {:?} {:?}", c.args, c.lists);
+            }
+        }
+    };
+    let mut r = rng::Rng::new(seed);
+    cases::systematic(&mut r, &mut put);
+    for _ in 0..count {
+        put(cases::random(&mut r));
+    }
+    let (mut same, mut differ) = (0, 0);
+    for (name, [a, b]) in &tally {
+        println!("{name:<32} {a:>7} alike {b:>4} not");
+        (same, differ) = (same + a, differ + b);
+    }
+    assert_eq!(tally.len(), 8, "every public call is compared");
+    println!("{same} passed, {differ} failed");
+    std::process::exit(i32::from(differ != 0));
+}
