@@ -156,7 +156,7 @@ static void reconstruct_refuses(void) {
   reconstruct_refused(c, 15, 16451, BRACETWILL_LENGTH, "reconstruction: one token more");
   c.dc_quant = 0;
   reconstruct_refused(c, 15, 16451, BRACETWILL_QUANTIZER, "reconstruction: DC quantizer 0");
-  c.dc_quant = 32768;
+  c.dc_quant = BRACETWILL_QUANT_LIMIT + 1;
   reconstruct_refused(c, 15, 16451, BRACETWILL_QUANTIZER, "reconstruction: DC quantizer 32768");
   c.dc_quant = 4;
   c.ac_quant = INT32_MIN;
@@ -173,12 +173,12 @@ static void reconstruct_refuses(void) {
   c.bit_depth = 9;
   reconstruct_refused(c, 15, 16451, BRACETWILL_DEPTH, "reconstruction: depth");
   c = good;
-  c.width = 65536;
+  c.width = BRACETWILL_SIDE_LIMIT + 1;
   c.height = 1;
-  c.samples_len = 65536;
+  c.samples_len = BRACETWILL_SIDE_LIMIT + 1;
   reconstruct_refused(c, 0, 0, BRACETWILL_PLANE, "reconstruction: width above its limit");
   c.width = 1;
-  c.height = 65536;
+  c.height = BRACETWILL_SIDE_LIMIT + 1;
   reconstruct_refused(c, 0, 0, BRACETWILL_PLANE, "reconstruction: height above its limit");
   c.width = c.height = (size_t)1 << 63;
   c.samples_len = 0;
@@ -323,14 +323,14 @@ static void quantizers(void) {
   equal(bracetwill_quantize_block(NULL, 0, 1, 1), BRACETWILL_DONE, "quantizer: no list");
   equal(bracetwill_quantize_block_tx(NULL, 0, 1, 1, 3, 12), BRACETWILL_DONE, "quantizer: no list, any size");
   quantize_refused(16, 1, 1, 0, 8, beyond, BRACETWILL_COEFFICIENT, "quantizer: beyond");
-  quantize_refused(1024, 1, 1, 3, 12, -beyond, BRACETWILL_COEFFICIENT, "quantizer: last beyond");
-  quantize_refused(1024, 1, 1, 3, 12, INT64_MIN, BRACETWILL_COEFFICIENT, "quantizer: the least number");
-  quantize_refused(1025, 1, 1, 0, 8, beyond, BRACETWILL_LENGTH, "quantizer: length");
-  quantize_refused(1025, 0, 1, 0, 8, beyond, BRACETWILL_QUANTIZER, "quantizer: DC 0");
-  quantize_refused(1025, 1, 32768, 0, 8, beyond, BRACETWILL_QUANTIZER, "quantizer: AC 32768");
+  quantize_refused(BRACETWILL_LIST_LIMIT, 1, 1, 3, 12, -beyond, BRACETWILL_COEFFICIENT, "quantizer: last beyond");
+  quantize_refused(BRACETWILL_LIST_LIMIT, 1, 1, 3, 12, INT64_MIN, BRACETWILL_COEFFICIENT, "quantizer: the least number");
+  quantize_refused(BRACETWILL_LIST_LIMIT + 1, 1, 1, 0, 8, beyond, BRACETWILL_LENGTH, "quantizer: length");
+  quantize_refused(BRACETWILL_LIST_LIMIT + 1, 0, 1, 0, 8, beyond, BRACETWILL_QUANTIZER, "quantizer: DC 0");
+  quantize_refused(BRACETWILL_LIST_LIMIT + 1, 1, 32768, 0, 8, beyond, BRACETWILL_QUANTIZER, "quantizer: AC 32768");
   quantize_refused(0, INT32_MIN, INT32_MAX, 0, 8, 0, BRACETWILL_QUANTIZER, "quantizer: of no list");
-  quantize_refused(1025, 0, 0, 4, 8, beyond, BRACETWILL_SIZE, "quantizer: size");
-  quantize_refused(1025, 0, 0, 4, 9, beyond, BRACETWILL_DEPTH, "quantizer: depth");
+  quantize_refused(BRACETWILL_LIST_LIMIT + 1, 0, 0, 4, 8, beyond, BRACETWILL_SIZE, "quantizer: size");
+  quantize_refused(BRACETWILL_LIST_LIMIT + 1, 0, 0, 4, 9, beyond, BRACETWILL_DEPTH, "quantizer: depth");
   equal(bracetwill_max_codeable_coef(8), 16450, "codeable limit at 8");
   equal(bracetwill_max_codeable_coef(10), 65602, "codeable limit at 10");
   equal(bracetwill_max_codeable_coef(12), 262210, "codeable limit at 12");
@@ -439,7 +439,7 @@ static void header_refused(uint32_t want, const char *what) {
 
 static void headers_refused(void) {
   listing();
-  file_len = 65536;
+  file_len = BRACETWILL_FILE_LIMIT + 1;
   header_refused(BRACETWILL_TOO_LARGE, "VBK: 65536 bytes");
   listing();
   file_len = 9;
