@@ -16,6 +16,8 @@ mod cases;
 mod compare;
 mod files;
 mod line;
+#[cfg(linked)]
+mod linked;
 mod lists;
 mod rng;
 mod rules;
@@ -24,12 +26,13 @@ mod vbk;
 use std::io::{BufRead, BufWriter, Write};
 
 const USAGE: &str = "calls answer            read calls, print each with its outcome
-calls check [FAULT]     read calls with outcomes, ask again, print the count of each kind (FAULT: a wrong answer on purpose)
+calls check [KIND]      read calls with outcomes, ask again, print the count of each kind (KIND: with a wrong answer to it on purpose)
 calls gen SEED COUNT    print the systematic calls and COUNT random ones, with their outcomes
 calls files SEED COUNT DIR   write the systematic VBK files and COUNT random ones, each with its expected output
 calls lists SEED        print the fixed list
 calls compare SEED COUNT DIR SIDE..   generated cases to each side; what is found goes to DIR
 calls list FILE DIR SIDE..            a list as it stands to each side
+calls linked SEED COUNT DIR [KIND]    generated cases to our library in this process (only where it is linked: target/oracle/*/linked)
 a SIDE is --calls NAME WORD.. --end (a command that checks lines) or --blockrun NAME WORD.. --end";
 
 /// Prints one call with its outcome, unless the line would be too long; answers whether it did.
@@ -80,7 +83,7 @@ pub struct Tally {
     pub first: u64,
 }
 
-fn check(fault: Option<&str>) {
+fn check(fault: Option<u32>) {
     let mut tallies = vec![Tally::default(); line::SHAPES.len()];
     lines(&mut |number, text| {
         let (call, expected) = line::read(text).unwrap_or_else(|e| panic!("line {number}: {e}"));
@@ -91,8 +94,8 @@ fn check(fault: Option<&str>) {
             return;
         }
         let mut got = ask::ask(&call);
-        if fault.is_some() {
-            compare::spoil(&call, &mut got);
+        if let Some(kind) = fault {
+            compare::spoil(kind, &call, &mut got);
         }
         if Some(got) == expected {
             tally.same += 1;
@@ -119,11 +122,16 @@ fn number(args: &[String], i: usize) -> u64 {
     args.get(i).and_then(|a| a.parse().ok()).unwrap_or_else(|| panic!("{USAGE}"))
 }
 
+/// The kind to be wrong on, if one is named.
+fn kind(args: &[String], i: usize) -> Option<u32> {
+    (args.len() > i).then(|| number(args, i) as u32)
+}
+
 fn main() {
     let args: Vec<String> = std::env::args().skip(1).collect();
     match args.first().map(String::as_str) {
         Some("answer") => answer(),
-        Some("check") => check(args.get(1).map(String::as_str)),
+        Some("check") => check(kind(&args, 1)),
         Some("gen") => {
             let mut out = BufWriter::with_capacity(1 << 20, std::io::stdout());
             let mut dropped = 0u64;
@@ -147,6 +155,8 @@ fn main() {
         Some("lists") => lists::write_all(number(&args, 1), &mut BufWriter::new(std::io::stdout())),
         Some("list") => std::process::exit(compare::run_list(&args[1], &args[2], &args[3..])),
         Some("compare") => std::process::exit(compare::run(number(&args, 1), number(&args, 2), &args[3], &args[4..])),
+        #[cfg(linked)]
+        Some("linked") => std::process::exit(linked::run(number(&args, 1), number(&args, 2), &args[3], kind(&args, 4))),
         _ => {
             eprintln!("{USAGE}");
             std::process::exit(2);

@@ -134,17 +134,30 @@ fn run_batch(side: &Side, batch: &Batch) -> Result<Vec<Tally>, String> {
 
 // ---- differences on purpose ----
 
-/// A wrong outcome, for the comparison's own test: the last number of a type 1 or 3 block is off where place 5 holds more than 2.
-pub fn spoil(call: &Call, outcome: &mut Outcome) {
-    if call.kind == 20 && outcome.nums[0] == 0 && call.args[1] % 2 == 1 && call.lists[0][5] > 2 {
-        if let Some(last) = outcome.lists[0].last_mut() {
-            *last += 1;
-        }
+/// A wrong outcome of one kind, for the comparison's own test. Kind 20: the last number of a type 1 or 3 block is off where place 5
+/// holds more than 2. Kind 22: the last sample is off where x is 1 and token 1 is not zero. Kind 30: the touched count is off where
+/// record 0 is done and record 1 is refused for its quantizer.
+pub fn spoil(kind: u32, call: &Call, outcome: &mut Outcome) {
+    if call.kind != kind || outcome.nums[0] != 0 {
+        return;
+    }
+    let hit = match kind {
+        20 => call.args[1] % 2 == 1 && call.lists[0][5] > 2,
+        22 => call.args[0] == 1 && call.lists[0][1] != 0,
+        _ => outcome.lists[0].starts_with(&[0, 5]),
+    };
+    if !hit {
+        return;
+    }
+    if kind == 30 {
+        outcome.nums[1] += 16;
+    } else if let Some(last) = outcome.lists[0].last_mut() {
+        *last += 1;
     }
 }
 
 /// Every way in which one number of the outcome can be off by one: each number, and one place of each list.
-fn planted(r: &mut Rng, outcome: &Outcome) -> Vec<Outcome> {
+pub fn planted(r: &mut Rng, outcome: &Outcome) -> Vec<Outcome> {
     let mut out = vec![];
     for k in 0..outcome.nums.len() {
         let mut o = outcome.clone();
@@ -289,7 +302,7 @@ fn simpler(c: &Call) -> Vec<Call> {
     out
 }
 
-fn simpler_file(f: &[u8]) -> Vec<Vec<u8>> {
+pub fn simpler_file(f: &[u8]) -> Vec<Vec<u8>> {
     let mut out = vec![];
     let mut part = f.len().div_ceil(2);
     while part >= 1 {
@@ -311,20 +324,8 @@ fn simpler_file(f: &[u8]) -> Vec<Vec<u8>> {
     out
 }
 
-/// Goes to simpler calls as long as the side still differs from the Rust; gives the last one, or none where the
-/// side agrees with the Rust on the call itself (then the line was wrong, not the side).
-fn smallest(side: &Side, call: &Call) -> Option<Call> {
-    let differs = |calls: &[Call]| -> Option<usize> {
-        let mut batch = Batch::new();
-        let mut of_line = vec![];
-        for (i, c) in calls.iter().enumerate() {
-            if !ask::stops_in_debug(c) && batch.push(c, &ask::ask(c)) {
-                of_line.push(i);
-            }
-        }
-        let got = run_batch(side, &batch).ok()?;
-        got.iter().filter(|t| t.differ > 0).map(|t| of_line[t.first as usize - 1]).min()
-    };
+/// Goes to simpler calls as long as one of them still differs; gives the last one, or none where the call itself does not.
+pub fn smallest_by(call: &Call, differs: &dyn Fn(&[Call]) -> Option<usize>) -> Option<Call> {
     differs(std::slice::from_ref(call))?;
     let mut best = call.clone();
     for _ in 0..SMALLER_ROUNDS {
@@ -337,7 +338,23 @@ fn smallest(side: &Side, call: &Call) -> Option<Call> {
     Some(best)
 }
 
-fn say(call: &Call, outcome: &Outcome) {
+/// The smallest call found on which the side differs from the Rust; none where it agrees on the call itself (then the
+/// line was wrong, not the side).
+fn smallest(side: &Side, call: &Call) -> Option<Call> {
+    smallest_by(call, &|calls| {
+        let mut batch = Batch::new();
+        let mut of_line = vec![];
+        for (i, c) in calls.iter().enumerate() {
+            if !ask::stops_in_debug(c) && batch.push(c, &ask::ask(c)) {
+                of_line.push(i);
+            }
+        }
+        let got = run_batch(side, &batch).ok()?;
+        got.iter().filter(|t| t.differ > 0).map(|t| of_line[t.first as usize - 1]).min()
+    })
+}
+
+pub fn say(call: &Call, outcome: &Outcome) {
     let shape = line::shape(call.kind).expect("a kind");
     let short = |l: &[i64]| {
         let text =
@@ -360,21 +377,21 @@ fn say(call: &Call, outcome: &Outcome) {
     }
 }
 
-/// The first number in which a line parts from the Rust.
-fn say_first(rust: &Outcome, line: &Outcome) {
-    for (k, (a, b)) in rust.nums.iter().zip(&line.nums).enumerate() {
+/// The first number in which another outcome parts from the Rust's.
+pub fn say_first(rust: &Outcome, other: &Outcome, name: &str) {
+    for (k, (a, b)) in rust.nums.iter().zip(&other.nums).enumerate() {
         if a != b {
-            println!("  number {k} of the outcome: the Rust {a}, the line {b}");
+            println!("  number {k} of the outcome: the Rust {a}, {name} {b}");
             return;
         }
     }
-    for (k, (a, b)) in rust.lists.iter().zip(&line.lists).enumerate() {
+    for (k, (a, b)) in rust.lists.iter().zip(&other.lists).enumerate() {
         if a.len() != b.len() {
-            println!("  list {k} of the outcome: the Rust has {} numbers, the line {}", a.len(), b.len());
+            println!("  list {k} of the outcome: the Rust has {} numbers, {name} {}", a.len(), b.len());
             return;
         }
         if let Some(i) = (0..a.len()).find(|i| a[*i] != b[*i]) {
-            println!("  list {k} of the outcome, place {i}: the Rust {}, the line {}", a[i], b[i]);
+            println!("  list {k} of the outcome, place {i}: the Rust {}, {name} {}", a[i], b[i]);
             return;
         }
     }
@@ -397,7 +414,7 @@ fn report(side: &Side, text: &[u8], dir: &str) {
             let outcome = ask::ask(&call);
             say(&call, &outcome);
             if let Some(e) = expected {
-                say_first(&outcome, &e);
+                say_first(&outcome, &e, "the line");
             }
         }
     }
@@ -405,11 +422,15 @@ fn report(side: &Side, text: &[u8], dir: &str) {
 
 // ---- files ----
 
+/// The systematic files, then `count` random ones and as many that nobody meant.
 pub fn every_file(seed: u64, count: u64, each: &mut dyn FnMut(Vec<u8>)) {
     let mut r = Rng::new(seed ^ 0x7662_6b00);
     files::systematic(&mut r, each);
     for _ in 0..count {
         each(files::random(&mut r, false));
+    }
+    for _ in 0..count {
+        each(files::fuzz(&mut r));
     }
 }
 

@@ -1,4 +1,4 @@
-//! VBK files from a seed: whole, cut, damaged, too long; every header and record refusal alone and in pairs.
+//! VBK files from a seed: whole, cut, damaged, too long; every header and record refusal alone and in pairs; bytes that are no file.
 
 use crate::cases::{BAD_TYPES, DEPTHS, Recon, beyond, example, fill, good_recon, samples, side, token_bound};
 use crate::line::Call;
@@ -126,6 +126,95 @@ pub fn random(r: &mut Rng, small: bool) -> Vec<u8> {
         _ => {}
     }
     f
+}
+
+fn noise(r: &mut Rng, len: usize) -> Vec<u8> {
+    (0..len).map(|_| r.next() as u8).collect()
+}
+
+/// Mostly zeros: the fewer other bytes, the more tokens are taken.
+fn sparse(r: &mut Rng, len: usize) -> Vec<u8> {
+    let once = r.pick(&[2, 8, 64, 500]);
+    (0..len).map(|_| if r.once_in(once) { r.next() as u8 } else { 0 }).collect()
+}
+
+fn fuzz_length(r: &mut Rng) -> usize {
+    match r.below(16) {
+        0 => r.pick(&[65_534, 65_535, 65_536]),
+        1..=4 => r.below(40) as usize,
+        5..=8 => r.below(20_000) as usize,
+        _ => r.below(1_000) as usize,
+    }
+}
+
+fn good_header(r: &mut Rng) -> Vec<u8> {
+    let depth = r.pick(&DEPTHS);
+    let (width, height) = (r.range(1, 20) as u64, r.range(1, 20) as u64);
+    let s = samples(r, (width * height) as usize, depth);
+    header(depth as u8, width, height, &s)
+}
+
+/// Bytes that nobody meant as a file.
+pub fn fuzz(r: &mut Rng) -> Vec<u8> {
+    let len = fuzz_length(r);
+    match r.below(6) {
+        0 => noise(r, len),
+        1 => {
+            // the mark and the version are there, and nothing else is meant
+            let mut f = b"VBK\x01\x00".to_vec();
+            f.push(r.pick(&[8, 8, 10, 12, 9]));
+            let tail = if r.once_in(2) { noise(r, len) } else { sparse(r, len) };
+            f.extend(tail);
+            f
+        }
+        2 => {
+            let mut f = good_header(r);
+            f.extend(noise(r, len));
+            f
+        }
+        3 => {
+            let mut f = good_header(r);
+            f.extend(sparse(r, len));
+            f
+        }
+        4 => {
+            // heads that are nearly good, with noise for tokens
+            let mut f = good_header(r);
+            for _ in 0..r.range(1, 12) {
+                let size = if r.once_in(30) { r.next() as u8 } else { r.pick(&[0, 0, 0, 1, 1, 2, 3]) };
+                put16(&mut f, r.below(24));
+                put16(&mut f, r.below(24));
+                f.push(size);
+                f.push(if r.once_in(8) { r.next() as u8 } else { r.below(4) as u8 });
+                f.push(r.pick(&[0, 0, 0, 1, 2]));
+                put16(&mut f, r.next() >> r.below(16));
+                put16(&mut f, r.next() >> r.below(16));
+                let tokens = sparse(r, 4 * rules::area(u32::from(size.min(3))));
+                f.extend(tokens);
+            }
+            f
+        }
+        _ => {
+            // a good file torn: bytes taken out, doubled, or flipped
+            let mut f = random(r, false);
+            for _ in 0..r.range(1, 4) {
+                if f.is_empty() {
+                    break;
+                }
+                let from = r.below(f.len() as u64) as usize;
+                let to = (from + 1 + r.below(80) as usize).min(f.len());
+                match r.below(3) {
+                    0 => drop(f.drain(from..to)),
+                    1 => {
+                        let part = f[from..to].to_vec();
+                        f.splice(from..from, part);
+                    }
+                    _ => f[from] ^= 1 << r.below(8),
+                }
+            }
+            f
+        }
+    }
 }
 
 pub fn as_call(file: &[u8]) -> Call {
