@@ -8,12 +8,10 @@ use lib.IntN.{ℤ}
 use lib.ListN.{replicate}
 use Rattle.whole.specs.Lists.{fill, move}
 use Rattle.whole.specs.Steps.{run, each}
-use Rattle.steps.specs.Shapes.{Z, shape, shape2, blank, Zeros}
+use Rattle.steps.proofs.Shapes.{Z, shape, shape2, blank, Zeros, zeros-stay2}
 use Rattle.steps.specs.Step.{A4, step, adst4}
 use Rattle.steps.specs.Step2.{Step2, on, step2, fresh}
-use Rattle.steps.specs.Places.{writes, writes2, every, Stays}
-use Rattle.steps.proofs.Places.{steps-stay2}
-use Rattle.steps.proofs.Shapes.{zeros-stay2}
+use Rattle.steps.proofs.Places.{writes, writes2, every, Stays, steps-stay2}
 use Rattle.adst.specs.Adst.{adstIn, out8, out16, adstOut, onT, adst8Steps, adst16Steps, adstSteps, adst}
 
 -- a number from 2 to 4 is one of the three

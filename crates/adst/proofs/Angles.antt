@@ -1,16 +1,16 @@
 -- The code's angles in i32: each operation fits, and the value is that of the definition.
 -- `first - by * i as i32`, then `48 + 64 * (i ^ j) as i32`.
 use mathlib.Core.Path.{_≡_}
-use Prim.Native.Nat.{ℕ, _+_, _*_, _^_, _≤_, _<_}
+use Prim.Native.Nat.{ℕ, _+_, _*_, _≤_, _<_}
 use native.Mathlib.Nat as NatL
 use native.Mathlib.Omega.{arith}
 use lib.Bits.{bitXor, xor-lt}
-use lib.IntN.{ℤ, pos, _+ℤ_, _-ℤ_, _*ℤ_}
+use lib.IntN.{pos, _+ℤ_, _-ℤ_, _*ℤ_}
 use mir.Syntax.{w32}
 use mir.Val.{SFits, toZ}
 use mir.Facts.{toZ-pos}
 use Rattle.whole.specs.Within.{Within}
-use Rattle.whole.specs.Signed.{rd}
+use Rattle.whole.proofs.Signed.{rd}
 use Rattle.whole.proofs.Within.{within-sfits, within-sub, back}
 
 within-pos : (n : ℕ) {m : ℕ} → n ≤ m → Within m (pos n)

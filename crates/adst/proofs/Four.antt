@@ -3,9 +3,8 @@ use mathlib.Core.Path.{_≡_, sym, subst}
 use Prim.Native.Nat.{ℕ, _+_, _*_}
 use native.Mathlib.Omega.{arith}
 use lib.IntN.{ℤ, pos, _+ℤ_, _-ℤ_, _*ℤ_}
-use Rattle.whole.specs.Ring.{E, at, _⊕_, _⊖_, _⊗_}
+use Rattle.whole.proofs.Ring.{E, at, _⊕_, _⊖_, _⊗_, ring}
 use Rattle.whole.specs.Within.{Within}
-use Rattle.whole.proofs.Ring.{ring}
 use Rattle.whole.proofs.Within.{within-self, within-add, within-sub, within-mul}
 
 abbrev by : ℕ → ℤ → E

@@ -10,8 +10,7 @@ use Rattle.whole.specs.Lists.{fill, move}
 use Rattle.whole.specs.Steps.{run, each, Ok, checks}
 use Rattle.primitives.specs.Cosine.{Cos64, Sin64, cosAt}
 use Rattle.steps.specs.Step2.{step2, fresh, Fine2}
-use Rattle.steps.specs.Bounds.{after, fine, after2, fine2, passes2, largest, grown2}
-use Rattle.steps.proofs.Bounds.{pass-sound2}
+use Rattle.steps.proofs.Bounds.{after, fine, after2, fine2, passes2, largest, grown2, pass-sound2}
 use Rattle.adst.specs.Adst.{adstIn, out8, out16, adstOut, onT, adst8Steps, adst16Steps, adstSteps, adst}
 use Rattle.adst.proofs.Adst.{two-to-four}
 

@@ -1,12 +1,12 @@
 -- `magnitude` at a negative number z: −(z + 1) is `mag z`, and everything on the way fits.
-use mathlib.Core.Path.{_≡_, refl, sym, ap, _∙_, subst}
-use mathlib.Core.Bool.{Bool, true, false}
-use Prim.Native.Nat.{ℕ, zero, suc, _+_, _<_, _≤_, _^_}
+use mathlib.Core.Path.{_≡_, _∙_}
+use mathlib.Core.Bool.{true, false}
+use Prim.Native.Nat.{ℕ, zero, suc, _+_, _≤_}
 use native.Mathlib.Omega.{arith}
 use native.Mathlib.Numerals.{add-one}
 use borrow.Author.Tests.{ltb-true}
 use lib.Dec.{T}
-use lib.IntN.{ℤ, pos, negsuc, natAbs, negℤ, sucℤ, _+ℤ_, _-ℤ_, +ℤ-one, +ℤ-idl, negℤ-negℤ}
+use lib.IntN.{ℤ, pos, negsuc, natAbs, negℤ, _+ℤ_, _-ℤ_, +ℤ-one, +ℤ-idl, negℤ-negℤ}
 use lib.Signed.{ltZ, mag, nonNeg}
 use mir.Syntax.{w64}
 use mir.Val.{SFits, Fits, toZ, ofZ}
@@ -24,10 +24,6 @@ small (suc n) = omega arith
 abs-suc : (z : ℤ) → ltZ z (pos 0) ≡ true → mag z + 1 ≡ natAbs z
 abs-suc (negsuc n) h = add-one n
 abs-suc (pos n) h = absurd (omega (arith, ltb-true n 0 h))
-
-pub is-pos : (z : ℤ) → ltZ z (pos 0) ≡ false → z ≡ pos (natAbs z)
-is-pos (pos n) h = refl
-is-pos (negsuc n) h = absurd (let z : _≡_ {A = ℕ} 0 1 = cc in omega arith)
 
 module _ (z : ℤ) (f : SFits w64 z) (h : ltZ z (pos 0) ≡ true) where
   pub one-fits : SFits w64 (z +ℤ pos 1)

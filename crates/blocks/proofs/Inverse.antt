@@ -15,7 +15,8 @@ use Rattle.whole.specs.Round.{Round2}
 use Rattle.whole.specs.Within.{Within, EachWithin}
 use Rattle.whole.proofs.Round.{round2-within}
 use Rattle.whole.proofs.Within.{within-le}
-use Rattle.steps.specs.Shapes.{Zeros, Alone, turned}
+use Rattle.steps.specs.Step.{turned}
+use Rattle.steps.proofs.Shapes.{Zeros, Alone}
 use Rattle.dct.specs.Dct.{dct}
 use Rattle.dct.proofs.Dct.{dct-dc, dct-zeros, two-to-five}
 use Rattle.blocks.specs.Block.{line, row, column, anew, rows, columns, put, on, rowsThenColumns, live, FirstWithin}

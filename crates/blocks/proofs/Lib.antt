@@ -4,5 +4,4 @@ pub mod Live
 pub mod Blocks
 pub mod Passes
 pub mod Inverse
-pub mod Worked
 pub mod Turns

@@ -11,8 +11,8 @@ use lib.Dec.{eqb}
 use lib.IntN.{ℤ, pos}
 use lib.ListN.{length, getD, replicate, length-replicate, getD-replicate}
 use Rattle.whole.specs.Within.{Within, EachWithin}
-use Rattle.steps.specs.Shapes.{Zeros}
-use Rattle.steps.specs.Places.{Stays}
+use Rattle.steps.proofs.Shapes.{Zeros}
+use Rattle.steps.proofs.Places.{Stays}
 use Rattle.dct.specs.Dct.{dct}
 use Rattle.dct.proofs.Dct.{dct-stays, dct-zeros}
 use Rattle.dct.proofs.Ranges.{dct-row, dct-column}

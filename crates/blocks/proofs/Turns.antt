@@ -12,8 +12,8 @@ use Rattle.whole.specs.Loops.{times}
 use Rattle.whole.specs.Within.{Within}
 use Rattle.whole.proofs.Loops.{times-none, times-more}
 use Rattle.whole.proofs.Within.{within-le}
-use Rattle.steps.specs.Places.{Stays}
-use Rattle.steps.specs.Shapes.{Zeros}
+use Rattle.steps.proofs.Places.{Stays}
+use Rattle.steps.proofs.Shapes.{Zeros}
 use Rattle.blocks.specs.Block.{line, rows, columns, put, on, live, FirstWithin}
 use Rattle.blocks.specs.Inverse.{Pass, apply, Safe}
 use Rattle.blocks.proofs.Places.{in-row, in-column}

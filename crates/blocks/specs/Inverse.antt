@@ -7,9 +7,8 @@ use lib.Dec.{eqb}
 use lib.IntN.{ℤ}
 use Rattle.whole.specs.Round.{Round2}
 use Rattle.whole.specs.Steps.{Ok}
-use Rattle.steps.specs.Step.{step, Fine, FourWithin}
+use Rattle.steps.specs.Step.{step, Fine, FourWithin, turned}
 use Rattle.steps.specs.Step2.{step2, fresh, Fine2}
-use Rattle.steps.specs.Shapes.{turned}
 use Rattle.dct.specs.Dct.{dctRow, dct}
 use Rattle.adst.specs.Adst.{adstSteps, adst}
 use Rattle.wht.specs.Wht.{wht}

@@ -1,3 +1,2 @@
 pub mod Dct
 pub mod Ranges
-pub mod Rows

@@ -11,8 +11,7 @@ use Rattle.whole.specs.Steps.{run, each, when, Ok, checks}
 use Rattle.primitives.specs.Brev.{Brev}
 use Rattle.primitives.specs.Cosine.{Cos64, Sin64, cosAt}
 use Rattle.steps.specs.Step.{step, Fine}
-use Rattle.steps.specs.Bounds.{after, fine, passes, largest, grown}
-use Rattle.steps.proofs.Bounds.{pass-sound}
+use Rattle.steps.proofs.Bounds.{after, fine, passes, largest, grown, pass-sound}
 use Rattle.dct.specs.Dct.{steps2, steps3, steps4, steps5, steps6, steps7, tailAt, tail, dctSteps, dctRow, dct}
 use Rattle.dct.proofs.Dct.{two-to-five}
 
@@ -55,3 +54,9 @@ exact31 : (rows 2 (2 ^ 31) ≡ 5842796544) × (columns 2 (2 ^ 31) ≡ 1589687143
     × (rows 5 (2 ^ 31) ≡ 85701744476) × (columns 5 (2 ^ 31) ≡ 3420183903713)
 unfolding grown largest after run dctRow dctSteps tail tailAt steps2 steps3 steps4 steps5 steps6 steps7 each when Brev move fill Cos64 Sin64 cosAt
 exact31 = (refl, refl, refl, refl, refl, refl, refl, refl)
+
+-- columns after rows by the ADST, which end within the bounds of `exact27` and `exact31` there
+afterAdst : (rows 2 608051200 ≡ 1654363913) × (rows 3 1265082028 ≡ 8027109943) × (rows 4 3239648070 ≡ 51091600818)
+    × (rows 2 9728819200 ≡ 26469822600) × (rows 3 20241312441 ≡ 128433759040) × (rows 4 51834369093 ≡ 817465612631)
+unfolding grown largest after run dctRow dctSteps tail tailAt steps2 steps3 steps4 steps5 steps6 steps7 each when Brev move fill Cos64 Sin64 cosAt
+afterAdst = (refl, refl, refl, refl, refl, refl)

@@ -1,6 +1,6 @@
 -- Laws of a run as C sees it: the figures in the room for them, and the answer.
-use mathlib.Core.Path.{_≡_, refl, sym, ap, _∙_}
-use mathlib.Core.Bool.{true, false}
+use mathlib.Core.Path.{_≡_, refl, sym, _∙_}
+use mathlib.Core.Bool.{false}
 use mathlib.Core.List.{List, [], _∷_}
 use Prim.Native.Nat.{ℕ, _≤_, _<_}
 use native.Mathlib.Omega.{arith}
@@ -9,7 +9,6 @@ use lib.Dec.{eqb}
 use lib.ListN.{length, drop, set}
 use Rattle.answers.specs.Answers.{number}
 use Rattle.vbk_read.specs.Header.{fieldsOf}
-use Rattle.vbk_read.specs.declared.Fields.{Fields}
 use Rattle.vbk.specs.Promises.{runAnswer, Replayed}
 use Rattle.vbk.specs.declared.Run.{Run}
 use Rattle.exports.specs.Run.{FIGURES, figures, exportAnswer, RunTold}

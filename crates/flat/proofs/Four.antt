@@ -5,10 +5,9 @@ use Prim.Native.Nat.{ℕ, _+_, _*_, _^_}
 use native.Mathlib.Omega.{arith}
 use lib.Dec.{lit≤}
 use lib.IntN.{ℤ, pos, _+ℤ_, _-ℤ_, _*ℤ_}
-use Rattle.whole.specs.Ring.{E, at, _⊕_, _⊖_, _⊗_}
+use Rattle.whole.proofs.Ring.{E, at, _⊕_, _⊖_, _⊗_, ring}
 use Rattle.whole.specs.Steps.{Ok}
 use Rattle.whole.specs.Within.{Within}
-use Rattle.whole.proofs.Ring.{ring}
 use Rattle.whole.proofs.Steps.{ok-here}
 use Rattle.whole.proofs.Within.{within-self, within-le, within-add, within-sub, within-mul}
 use Rattle.steps.specs.Step.{FourWithin}

@@ -8,11 +8,9 @@ use lib.Signed.{mag}
 use mir.Syntax.{w32, w64}
 use mir.Val.{SFits, hbits}
 use mir.Facts.{toZ-ofZ}
-use Rattle.whole.specs.Ring.{at, _⊕_, _⊖_, _⊗_}
-use Rattle.whole.specs.Signed.{rd}
+use Rattle.whole.proofs.Ring.{at, _⊕_, _⊖_, _⊗_, ring}
+use Rattle.whole.proofs.Signed.{rd, rd-ok}
 use Rattle.whole.specs.Within.{Within}
-use Rattle.whole.proofs.Signed.{rd-ok}
-use Rattle.whole.proofs.Ring.{ring}
 use Rattle.whole.proofs.Within.{back, within-le, within-add, within-sub, within-mul}
 use Rattle.primitives.specs.Cosine.{Cos64, Sin64}
 use Rattle.primitives.specs.Rotations.{turnX, turnY}

@@ -1,14 +1,13 @@
 -- The token law for whole lists, as the calls see them: the coefficients of codeable tokens are taken, and each token is given back.
 use mathlib.Core.Path.{_≡_, refl, sym, ap, _∙_}
-use mathlib.Core.Bool.{Bool, true, false, _||_}
+use mathlib.Core.Bool.{Bool, true, false}
 use mathlib.Core.List.{List}
 use Prim.Native.Nat.{ℕ, _≤_, _<_}
 use native.Mathlib.Omega.{arith}
-use borrow.Author.Tests.{eq-eqb, le-ltb}
-use lib.Dec.{ltb, eqb}
+use borrow.Author.Tests.{le-ltb}
+use lib.Dec.{eqb}
 use lib.IntN.{ℤ, pos, natAbs}
 use lib.ListN.{length, getD}
-use Rattle.whole.specs.Lists.{tabulate}
 use Rattle.whole.proofs.Lists.{length-tabulate, getD-tabulate, tabulate-same}
 use Rattle.answers.specs.Answers.{number}
 use Rattle.answers.specs.Bad.{badDepth, badQuantizer, anyBeyond}
@@ -16,7 +15,7 @@ use Rattle.answers.specs.Limits.{COEF_LIMIT, LIST_LIMIT, codeable}
 use Rattle.answers.specs.declared.Answer.{Answer}
 use Rattle.answers.proofs.Passed.{all-within}
 use Rattle.quant.specs.Places.{quantizerAt, dequantAll, givenBackAll}
-use Rattle.quant.specs.Token.{dequant, quantize, givenBack}
+use Rattle.quant.specs.Token.{dequant, quantize}
 use Rattle.quant.specs.declared.AcQuant.{AcQuant}
 use Rattle.quant.specs.declared.DcQuant.{DcQuant}
 use Rattle.quant.proofs.TokenLaw.{token-law}

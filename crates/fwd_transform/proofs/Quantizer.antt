@@ -1,14 +1,14 @@
 -- Laws of the quantizing calls: what each answer leaves, what answer 0 says of the input, and that the promise fixes the result.
-use mathlib.Core.Path.{_≡_, refl, sym, ap, _∙_}
+use mathlib.Core.Path.{_≡_, refl, sym, _∙_}
 use mathlib.Core.Bool.{Bool, true, false, _||_, cond}
 use mathlib.Core.List.{List}
-use Prim.Native.Nat.{ℕ, zero, suc, _≤_, _<_}
+use Prim.Native.Nat.{ℕ, _≤_, _<_}
 use native.Mathlib.Omega.{arith}
 use borrow.Author.Tests.{ltb-false, eq-eqb, ne-eqb}
 use lib.Dec.{ltb, eqb}
 use lib.IntN.{ℤ, pos, natAbs}
 use lib.ListN.{length, getD}
-use Rattle.whole.specs.Lists.{tabulate, fill}
+use Rattle.whole.specs.Lists.{fill}
 use Rattle.whole.proofs.Lists.{fill-rest, fill-all, fill-done}
 use Rattle.answers.specs.Bad.{badDepth, badSize, badQuantizer, anyBeyond}
 use Rattle.answers.specs.Limits.{COEF_LIMIT, LIST_LIMIT}

@@ -2,16 +2,15 @@
 use mathlib.Core.Path.{_≡_, refl, sym, ap, _∙_, fun-ext}
 use mathlib.Core.Bool.{Bool, true, false, cond, _&&_}
 use mathlib.Core.List.{List}
-use Prim.Native.Nat.{ℕ, _+_, _-_, _*_, _/_, _%_, _^_, _≤_, _<_}
+use Prim.Native.Nat.{ℕ, _+_, _-_, _*_, _/_, _%_, _≤_, _<_}
 use native.Mathlib.Decide.{decLt}
 use native.Mathlib.Nat as NatL
 use native.Mathlib.Omega.{arith}
 use borrow.Author.Tests.{lt-ltb, le-ltb, eq-eqb}
 use lib.Arith.{digits-div, digits-mod}
-use lib.Dec.{ltb, eqb}
-use lib.IntN.{ℤ, pos, negℤ, natAbs, _+ℤ_, _-ℤ_, _*ℤ_}
+use lib.Dec.{ltb}
+use lib.IntN.{ℤ, pos, negℤ, natAbs, _+ℤ_, _-ℤ_}
 use lib.ListN.{length, getD, List·getD-eq-default}
-use Rattle.whole.specs.Parts.{P}
 use Rattle.whole.specs.Within.{Within}
 use Rattle.whole.proofs.Lists.{length-tabulate, getD-tabulate}
 use Rattle.whole.proofs.Parts.{sum-parts, neg-P, neg-N, eq-parts}
@@ -33,11 +32,11 @@ use Rattle.wht.specs.Wht.{wht}
 use Rattle.fwd_transform.specs.ForwardWht.{forwardWht, whtAnswer, Forwarded}
 use Rattle.fwd_transform.proofs.Wht as F
 use Rattle.plane.specs.declared.Plane.{Plane}
-use Rattle.plane.specs.Place.{placeOf, rowOf, columnOf, areaOf, cut, SamplesOf}
+use Rattle.plane.specs.Place.{rowOf, columnOf, areaOf, cut, SamplesOf}
 use Rattle.plane.specs.Plane.{clip, inside, blockAfter, planeAfter}
 use Rattle.plane.proofs.Row.{inside-yes, inside-is}
 use Rattle.plane.proofs.Block.{after-length, after-at, row-of, column-of, place-of, column-in, row-in-plane, off-rows, off-columns, on-block}
-use Rattle.reconstruct.specs.Reconstruct.{Input, largest, badQuantizers, badPlane, badCoefficient, answerOf, residual, added, samplesAfter, Reconstructed}
+use Rattle.reconstruct.specs.Reconstruct.{largest, badQuantizers, badPlane, badCoefficient, answerOf, residual, added, samplesAfter, Reconstructed}
 use Rattle.reconstruct.proofs.Above.{dequant-abs}
 use Rattle.reconstruct.proofs.Residual.{none-live}
 use Rattle.reconstruct.proofs.Table.{done}

@@ -1,6 +1,6 @@
 -- A forward and an inverse that both do nothing fail the lossless law: a source of 1 on a prediction of 0 would show as 4.
 use mathlib.Core.Path.{_≡_, refl}
-use mathlib.Core.List.{List, [], _∷_}
+use mathlib.Core.List.{[], _∷_}
 use Prim.Native.Nat.{ℕ, zero, suc, _≤_}
 use native.Mathlib.Omega.{arith}
 use lib.IntN.{pos}

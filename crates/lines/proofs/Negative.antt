@@ -2,13 +2,12 @@
 use mathlib.Core.Path.{_≡_}
 use Prim.Native.Nat.{ℕ, _<_, _^_}
 use native.Mathlib.Omega.{arith}
-use lib.IntN.{ℤ, pos, negℤ, _-ℤ_}
+use lib.IntN.{pos, negℤ, _-ℤ_}
 use mir.Syntax.{w64}
 use mir.Val.{SFits, toZ, ofZ}
 use mir.ValLaws.{toZ-ofZ, toZ-pos}
-use Rattle.whole.specs.Ring.{at, neg, _⊖_}
+use Rattle.whole.proofs.Ring.{at, neg, _⊖_, sfits-by}
 use Rattle.whole.proofs.Parts.{zero-minus}
-use Rattle.whole.proofs.Ring.{sfits-by}
 
 module _ (n : ℕ) (h : n < 2 ^ 63) where
   turned : pos 0 -ℤ toZ w64 n ≡ negℤ (pos n)

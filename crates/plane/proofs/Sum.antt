@@ -9,10 +9,9 @@ use lib.Signed.{ltZ, nonNeg}
 use mir.Syntax.{w16, w64}
 use mir.Val.{SFits, Fits, toZ}
 use Rattle.whole.specs.Parts.{P, N}
-use Rattle.whole.specs.Signed.{rd, C, loc, _⊕_}
+use Rattle.whole.proofs.Signed.{rd, C, loc, _⊕_, fits, value}
 use Rattle.whole.specs.Within.{Within}
 use Rattle.whole.proofs.Parts.{apart, abs-parts, ltZ-true, ltZ-false, nonNeg-parts}
-use Rattle.whole.proofs.Signed.{fits, value}
 use Rattle.whole.proofs.Within.{within-abs, back}
 use Rattle.plane.specs.Plane.{clip}
 

@@ -2,5 +2,4 @@ pub mod Cosine
 pub mod Reversal
 pub mod Rotations
 pub mod Growth
-pub mod Numbers
 pub mod Out

@@ -1,9 +1,8 @@
 -- The two-multiply form of B at angles 16 + 32k gives the same numbers as the four-multiply form.
-use mathlib.Core.Path.{_≡_, refl, sym, ap, _∙_}
+use mathlib.Core.Path.{_≡_}
 use native.Mathlib.Omega.{arith}
 use lib.IntN.{ℤ, negℤ, _+ℤ_, _-ℤ_, _*ℤ_}
-use Rattle.whole.specs.Ring.{at, _⊕_, _⊖_, _⊗_, neg}
-use Rattle.whole.proofs.Ring.{ring}
+use Rattle.whole.proofs.Ring.{at, _⊕_, _⊖_, _⊗_, neg, ring}
 use Rattle.primitives.specs.Cosine.{Cos64, Sin64}
 use Rattle.primitives.specs.Rotations.{turnX, turnY}
 

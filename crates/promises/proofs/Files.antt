@@ -1,10 +1,9 @@
 -- The VBK file's answers: each number is given when, and only when, its step is the first whose condition holds.
-use mathlib.Core.Path.{_≡_, refl, sym, subst, _∙_}
-use mathlib.Core.Bool.{Bool, true, false, not, cond, _&&_, _||_}
+use mathlib.Core.Path.{_≡_, refl, sym, subst}
+use mathlib.Core.Bool.{Bool, true, false, not, cond, _&&_}
 use mathlib.Core.List.{List, [], _∷_}
-use Prim.Native.Nat.{ℕ, suc, _+_, _≤_, _<_}
-use native.Mathlib.Omega.{arith}
-use borrow.Author.Tests.{ltb-true, ltb-false, eqb-true, lt-ltb, le-ltb, eq-eqb, ne-eqb, leb-false, lt-leb}
+use Prim.Native.Nat.{ℕ, suc, _+_, _<_}
+use borrow.Author.Tests.{ltb-true, eqb-true, lt-ltb, eq-eqb, leb-false, lt-leb}
 use lib.Dec.{leb, ltb, eqb}
 use lib.ListN.{length}
 use Rattle.answers.specs.Answers.{number, lowest}
@@ -13,7 +12,7 @@ use Rattle.answers.specs.Bad.{badDepth, badSize}
 use Rattle.answers.proofs.Numbers.{Applies, there}
 use Rattle.vbk_read.specs.Bytes.{le1}
 use Rattle.vbk_read.specs.Header.{HEADER_BYTES, versionOf, depthOf, areaOf, firstRecord, marked, badArea, headerAnswer, Headed}
-use Rattle.vbk_read.specs.Records.{HEAD_BYTES, sizeAt, losslessAt, nextAt, endAnswer, ends, losslessAnswer, checkAnswer, Recorded}
+use Rattle.vbk_read.specs.Records.{HEAD_BYTES, sizeAt, losslessAt, nextAt, endAnswer, checkAnswer, Recorded}
 use Rattle.vbk_read.specs.declared.Header.{Header}
 use Rattle.vbk_read.specs.declared.Record.{Record}
 use Rattle.vbk.specs.Replay.{RECORD_LIMIT}

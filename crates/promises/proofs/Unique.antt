@@ -1,5 +1,5 @@
 -- One result per promise: two results that meet a call's promise on the same input coincide, the answer, every value and every lent element.
-use mathlib.Core.Path.{_≡_, refl, sym, ap, _∙_}
+use mathlib.Core.Path.{_≡_, sym, ap, _∙_}
 use mathlib.Core.List.{List}
 use Prim.Native.Nat.{ℕ}
 use lib.IntN.{ℤ, pos}
@@ -13,9 +13,7 @@ use Rattle.fwd_transform.specs.Quantize as Q
 use Rattle.fwd_transform.specs.ForwardWht.{Forwarded}
 use Rattle.vbk_read.specs.Header.{Headed}
 use Rattle.vbk_read.specs.Records.{Recorded}
-use Rattle.vbk_read.specs.declared.Cursor.{Cursor}
 use Rattle.vbk_read.specs.declared.Fields.{Fields}
-use Rattle.vbk_read.specs.declared.Head.{Head}
 use Rattle.vbk_read.specs.declared.Header.{Header}
 use Rattle.vbk_read.specs.declared.Record.{Record}
 use Rattle.vbk.specs.Promises.{Replayed, Printed}

@@ -1,12 +1,9 @@
 -- For each call, the condition of each number that it can give.
 use mathlib.Core.Path.{_≡_}
-use mathlib.Core.Bool.{Bool, true, false, not}
 use mathlib.Core.List.{List, [], _∷_}
 use Prim.Native.Nat.{ℕ, suc, _+_, _-_, _*_, _≤_, _<_}
-use lib.Dec.{ltb, eqb}
 use lib.IntN.{ℤ}
 use lib.ListN.{length}
-use Rattle.answers.specs.Answers.{lowest}
 use Rattle.answers.specs.Limits.{COEF_LIMIT, WHT_LIMIT, SIDE_LIMIT, LIST_LIMIT, FILE_LIMIT, AREA_LIMIT, codeable}
 use Rattle.quant.specs.Places.{dequantAll}
 use Rattle.idct.specs.Driver as D

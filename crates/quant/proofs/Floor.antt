@@ -16,10 +16,6 @@ pub floor-is : (x q d : ℕ) → Floor x q d → x / q ≡ d
 floor-is x q d f = NatL.div-eq-of-lt-le q (f .low) (omega (arith, f .high))
 
 -- the rounded quotient
-pub rounded-floor : (q a : ℕ) → 0 < q → Floor (2 * a + (q - 1)) (2 * q) (rounded q a)
-unfolding rounded
-rounded-floor q a p = floor (2 * a + (q - 1)) (2 * q) (omega arith)
-
 pub rounded-is : (q a t : ℕ) → Floor (2 * a + (q - 1)) (2 * q) t → rounded q a ≡ t
 unfolding rounded
 rounded-is q a t f = floor-is (2 * a + (q - 1)) (2 * q) t f

@@ -3,4 +3,3 @@ pub mod Sign
 pub mod TokenLaw
 pub mod Halves
 pub mod Machine
-pub mod Worked

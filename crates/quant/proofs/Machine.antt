@@ -1,7 +1,7 @@
 -- A quantizer and its product with a token, as the machine has them.
-use mathlib.Core.Path.{_≡_, refl, sym, ap, _∙_}
+use mathlib.Core.Path.{_≡_, refl}
 use mathlib.Core.Bool.{Bool, true, false}
-use Prim.Native.Nat.{ℕ, _+_, _-_, _*_, _/_, _≤_, _<_, _^_}
+use Prim.Native.Nat.{ℕ, _-_, _*_, _≤_, _^_}
 use native.Mathlib.Omega.{arith}
 use lib.Dec.{T, eqb}
 use lib.IntN.{ℤ, pos, negsuc, negℤ, natAbs, _-ℤ_, _*ℤ_}
@@ -9,10 +9,9 @@ use lib.Signed.{ltZ, nonNeg}
 use mir.Syntax.{w32, w64}
 use mir.Val.{SFits, Fits, toZ}
 use Rattle.whole.specs.Within.{Within}
-use Rattle.whole.specs.Signed.{rd, C, loc, _⊗_, minus}
+use Rattle.whole.proofs.Signed.{rd, C, loc, _⊗_, minus, fits, value}
 use Rattle.whole.proofs.Parts.{ltZ-true, ltZ-false}
 use Rattle.whole.proofs.Within.{within-abs, within-sfits, back}
-use Rattle.whole.proofs.Signed.{fits, value}
 use Rattle.answers.specs.Bad.{badQuantizer}
 use Rattle.answers.specs.Limits.{QUANT_LIMIT, codeable}
 use Rattle.answers.proofs.Passed.{quantizer}

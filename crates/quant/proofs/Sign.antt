@@ -1,10 +1,8 @@
 -- Laws of signs: a magnitude with a sign, and dequantizing and quantizing as they act on magnitudes.
-use mathlib.Core.Path.{_≡_, refl, sym, ap, _∙_}
-use mathlib.Core.Bool.{Bool, true, false, cond}
-use Prim.Native.Nat.{ℕ, zero, suc, min, _+_, _-_, _*_, _/_, _≤_, _<_}
+use mathlib.Core.Path.{_≡_, refl, ap}
+use Prim.Native.Nat.{ℕ, zero, suc, min, _-_, _*_, _/_, _<_}
 use native.Mathlib.Nat as NatL
 use native.Mathlib.Omega.{arith}
-use lib.Dec.{eqb}
 use lib.IntN.{ℤ, pos, negsuc, negℤ, natAbs, _*ℤ_}
 use lib.Signed.{quotZ}
 use Rattle.whole.proofs.Parts.{neg-P, neg-N, eq-parts, quot-P, quot-N}
@@ -19,10 +17,6 @@ abs-with-sign (negsuc a) (suc m) = refl
 pub with-own-sign : (z : ℤ) → withSign z (natAbs z) ≡ z
 with-own-sign (pos a) = refl
 with-own-sign (negsuc a) = refl
-
-pub with-sign-zero : (z : ℤ) → withSign z 0 ≡ pos 0
-with-sign-zero (pos a) = refl
-with-sign-zero (negsuc a) = refl
 
 pub dequant-sign : (size n : ℕ) (t : ℤ) → dequant size (pos n) t ≡ withSign t (natAbs t * n / dqDenom size)
 unfolding dequant

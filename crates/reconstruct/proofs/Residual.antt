@@ -17,7 +17,7 @@ use Rattle.whole.specs.Within.{Within, AllWithin}
 use Rattle.whole.proofs.Lists.{length-tabulate, getD-tabulate, length-fill, fill-rest, fill-below}
 use Rattle.whole.proofs.Within.{within-abs, within-le, within-mul, within-lit, within-zero}
 use Rattle.whole.proofs.Round.{round2-within}
-use Rattle.steps.specs.Shapes.{turned}
+use Rattle.steps.specs.Step.{turned}
 use Rattle.answers.specs.Limits.{COEF_LIMIT, codeable}
 use Rattle.answers.proofs.Passed.{quantizer}
 use Rattle.quant.specs.declared.DcQuant.{DcQuant}

@@ -1,5 +1,2 @@
 pub mod Step
 pub mod Step2
-pub mod Bounds
-pub mod Shapes
-pub mod Places

@@ -66,3 +66,7 @@ Fine m (Neg i) t = (i < 32) × Within m (getD t i (pos 0))
 Fine m (Move k f) t = k ≤ 32
 Fine m A4 t = FourWithin m t
 Fine m (Wh shift) t = FourWithin m t
+
+-- x through the rotation by 16: 11585 is cos64(16) and sin64(16)
+unfoldable pub turned : ℤ → ℤ
+turned x = Round2 (x *ℤ pos 11585) 14

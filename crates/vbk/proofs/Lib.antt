@@ -3,4 +3,3 @@ pub mod Records
 pub mod Tokens
 pub mod Runs
 pub mod Printing
-pub mod Unique

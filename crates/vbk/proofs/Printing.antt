@@ -19,7 +19,7 @@ use Rattle.vbk_text.proofs.Size.{Small, run-fits, refusal-fits}
 use Rattle.vbk_text.proofs.Writing.{put-front, put-count, put-within}
 use Rattle.vbk.specs.Replay.{replay}
 use Rattle.vbk.specs.Filled.{reconstruction}
-use Rattle.vbk.specs.Promises.{runOf, roomy, runAnswer, samplesFor, answersFor, Replayed, outcomeOf, printable, printed, Printed}
+use Rattle.vbk.specs.Promises.{runOf, roomy, runAnswer, samplesFor, answersFor, Replayed, outcomeOf, printable, Printed}
 use Rattle.vbk.specs.declared.Run.{Run}
 use Rattle.vbk.proofs.Numbers.{number-most}
 use Rattle.vbk.proofs.Runs.{enough}

@@ -1,4 +1,3 @@
 pub mod Words
 pub mod Headers
 pub mod Records
-pub mod Unique

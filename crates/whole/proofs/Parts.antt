@@ -4,7 +4,7 @@ use mathlib.Core.Bool.{Bool, true, false, not, cond}
 use Prim.Native.Nat.{ℕ, suc, zero, pred, min, _+_, _-_, _*_, _/_, _%_, _≤_, _<_}
 use native.Mathlib.Nat as NatL
 use native.Mathlib.Omega.{arith}
-use lib.Dec.{T, ltb, ltb→lt, nltb→le, leb→le}
+use lib.Dec.{T, ltb, ltb→lt, nltb→le}
 use lib.IntN.{ℤ, pos, negsuc, negℤ, natAbs, subℕ, _+ℤ_, _-ℤ_, _*ℤ_, +ℤ-idl}
 use lib.Signed.{mag, ltZ, shrZ, quotZ, remZ, nonNeg}
 use Rattle.whole.specs.Parts.{P, N}

@@ -1,12 +1,11 @@
 -- Laws of Round2: how far it reaches.
-use mathlib.Core.Path.{_≡_, refl, ap}
-use Prim.Native.Nat.{ℕ, zero, suc, _+_, _-_, _*_, _/_, _^_, _≤_, _<_}
+use mathlib.Core.Path.{_≡_}
+use Prim.Native.Nat.{ℕ, zero, suc, _+_, _-_, _/_, _^_, _≤_}
 use native.Mathlib.Nat as NatL
 use native.Mathlib.Numerals.{sub-one}
 use native.Mathlib.Omega.{arith}
 use lib.IntN.{ℤ, pos, _+ℤ_}
 use lib.Pow.{pow-pos}
-use Rattle.whole.specs.Parts.{P, N}
 use Rattle.whole.specs.Within.{Within}
 use Rattle.whole.specs.Round.{Round2}
 use Rattle.whole.proofs.Parts.{sum-parts, apart}

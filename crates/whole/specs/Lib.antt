@@ -1,8 +1,6 @@
 pub mod Parts
 pub mod Within
 pub mod Tests
-pub mod Ring
-pub mod Signed
 pub mod Round
 pub mod Lists
 pub mod Loops

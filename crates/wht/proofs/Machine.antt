@@ -11,9 +11,8 @@ use lib.Pow.{pow-pos}
 use lib.Signed.{shrZ}
 use mir.Syntax.{w64}
 use Rattle.whole.specs.Within.{Within}
-use Rattle.whole.specs.Signed.{rd, Is}
+use Rattle.whole.proofs.Signed.{rd, Is, is-in, is-rd, add, sub, shr}
 use Rattle.whole.proofs.Within.{within-shr}
-use Rattle.whole.proofs.Signed.{is-in, is-rd, add, sub, shr}
 use Rattle.steps.specs.Step.{halfway, FourWithin}
 
 pub put-four : (l : List ℤ) {x y z u x′ y′ z′ u′ : ℤ} → x ≡ x′ → y ≡ y′ → z ≡ z′ → u ≡ u′

@@ -13,8 +13,7 @@ use Rattle.whole.specs.Tests.{both}
 use Rattle.whole.specs.Steps.{run, checks}
 use Rattle.whole.proofs.Steps.{ok-here}
 use Rattle.steps.specs.Step.{step, Wh, FourWithin}
-use Rattle.steps.specs.Bounds.{shifted, after, fine, passes, largest, grown}
-use Rattle.steps.proofs.Bounds.{step-sound, pass-sound}
+use Rattle.steps.proofs.Bounds.{shifted, after, fine, passes, largest, grown, step-sound, pass-sound}
 use Rattle.wht.specs.Wht.{whtRow, wht}
 
 -- rows: from 2^31 to 2^37; columns: from 2^37 to 2^43, as for the other transforms

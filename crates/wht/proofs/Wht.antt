@@ -7,21 +7,13 @@ use lib.IntN.{ℤ, pos, _+ℤ_, _-ℤ_, _*ℤ_}
 use lib.ListN.{length, getD, replicate}
 use lib.Signed.{shrZ}
 use Rattle.whole.specs.Parts.{P, N}
-use Rattle.whole.specs.Ring.{E, at, _⊕_, _⊖_, ev}
+use Rattle.whole.proofs.Ring.{E, at, _⊕_, _⊖_, ev, sound, ring}
 use Rattle.whole.specs.Steps.{run}
 use Rattle.whole.proofs.Parts.{apart, eq-parts, mul-P, mul-N, shr-low, shr-high}
-use Rattle.whole.proofs.Ring.{sound, ring}
 use Rattle.steps.specs.Step.{step, halfway, wht4}
-use Rattle.steps.specs.Places.{writes, every, Stays}
-use Rattle.steps.specs.Shapes.{Zeros, shape}
-use Rattle.steps.proofs.Places.{steps-stay}
-use Rattle.steps.proofs.Shapes.{zeros-stay}
+use Rattle.steps.proofs.Places.{writes, every, Stays, steps-stay}
+use Rattle.steps.proofs.Shapes.{Zeros, shape, zeros-stay}
 use Rattle.wht.specs.Wht.{whtRow, wht}
-
--- the worked number
-pub worked : wht 0 (pos 5 ∷ replicate 31 (pos 0)) ≡ pos 3 ∷ pos 2 ∷ pos 2 ∷ pos 2 ∷ replicate 28 (pos 0)
-unfolding wht whtRow run step wht4 halfway
-worked = refl
 
 -- entries from 4 on stay, and the length
 pub wht-stays : (k : ℕ) (t : List ℤ) → Stays 4 t (wht k t)

@@ -4,9 +4,8 @@ use Prim.Native.Nat.{_≤_, _-_}
 use native.Mathlib.Omega.{arith}
 use mir.Syntax.{w64}
 use borrow.Author.Needs.{needs}
-use Rattle.whole.specs.Signed.{loc, minus}
+use Rattle.whole.proofs.Signed.{loc, minus, fits, value}
 use Rattle.whole.specs.Steps.{run, each}
-use Rattle.whole.proofs.Signed.{fits, value}
 use Rattle.whole.proofs.Steps.{each-more, ok-turn, ok-here, loops}
 use Rattle.steps.specs.Step.{step}
 use Rattle.adst.specs.Adst.{eight9}

@@ -3,7 +3,6 @@ use mathlib.Core.Path.{_≡_, _∙_}
 use native.Mathlib.Omega.{arith}
 use Rattle.whole.proofs.Steps.{ok-here}
 use Rattle.steps.specs.Step2.{fresh}
-use Rattle.adst.specs.Adst.{adst}
 use Rattle.adst.proofs.Adst.{four-steps, eight-steps, sixteen-steps, four-is, eight-is, sixteen-is}
 use Rattle.adst.proofs.inverse_adst.Statement.{statement}
 use Rattle.adst.proofs.inverse_adst.Tie as tie

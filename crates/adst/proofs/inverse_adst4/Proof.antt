@@ -7,9 +7,8 @@ use lib.IntN.{ℤ, pos}
 use mir.Syntax.{w64}
 use borrow.Author.Needs.{needs}
 use Rattle.whole.specs.Round.{Round2}
-use Rattle.whole.specs.Signed.{C, loc, lit, _⊕_, _⊖_, _⊗_, val, code}
+use Rattle.whole.proofs.Signed.{C, loc, lit, _⊕_, _⊖_, _⊗_, val, code, rd-ok, fits, within, value}
 use Rattle.whole.specs.Within.{Within}
-use Rattle.whole.proofs.Signed.{rd-ok, fits, within, value}
 use Rattle.whole.proofs.Within.{within-le}
 use Rattle.steps.specs.Step.{FourWithin, adst4}
 use Rattle.adst.proofs.Four.{sum-within}

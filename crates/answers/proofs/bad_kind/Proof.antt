@@ -1,4 +1,4 @@
-use borrow.Author.Tests.{eq-eqb, ne-eqb, lt-ltb, le-ltb}
+use borrow.Author.Tests.{ne-eqb, lt-ltb, le-ltb}
 use Rattle.answers.specs.Bad.{badKind}
 use Rattle.answers.proofs.bad_kind.Statement.{statement}
 use Rattle.answers.proofs.bad_kind.Tie as tie

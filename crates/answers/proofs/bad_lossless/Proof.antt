@@ -1,4 +1,3 @@
-use borrow.Author.Tests.{eq-eqb, ne-eqb, lt-ltb, le-ltb}
 use Rattle.answers.specs.Bad.{badLossless}
 use Rattle.answers.proofs.bad_lossless.Statement.{statement}
 use Rattle.answers.proofs.bad_lossless.Tie as tie

@@ -6,8 +6,7 @@ use lib.ListN.{getD}
 use mir.Syntax.{w64}
 use borrow.Author.Needs.{needs}
 use Rattle.whole.specs.Round.{Round2}
-use Rattle.whole.specs.Signed.{rd}
-use Rattle.whole.proofs.Signed.{rd-ok}
+use Rattle.whole.proofs.Signed.{rd, rd-ok}
 use Rattle.whole.proofs.Within.{within-le}
 use Rattle.primitives.specs.Rotations.{applyB, put, turnX, turnY}
 use Rattle.steps.specs.Step.{step}

@@ -2,8 +2,7 @@
 use Prim.Native.Nat.{_^_}
 use mir.Syntax.{w64}
 use borrow.Author.Needs.{needs}
-use Rattle.whole.specs.Signed.{loc, minus}
-use Rattle.whole.proofs.Signed.{fits, value}
+use Rattle.whole.proofs.Signed.{loc, minus, fits, value}
 use Rattle.steps.specs.Step.{step}
 use Rattle.flat.proofs.fneg.Statement.{statement}
 use Rattle.flat.proofs.fneg.Tie as tie

@@ -4,7 +4,7 @@ use lib.IntN.{ℤ, pos}
 use lib.ListN.{getD}
 use mir.Syntax.{w64}
 use borrow.Author.Needs.{needs}
-use Rattle.whole.specs.Signed.{rd}
+use Rattle.whole.proofs.Signed.{rd}
 use Rattle.primitives.specs.Rotations.{applySB, put, turnX, turnY}
 use Rattle.steps.specs.Step2.{step2}
 use Rattle.flat.proofs.Three.{rotated}

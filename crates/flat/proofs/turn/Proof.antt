@@ -5,8 +5,7 @@ use lib.IntN.{ℤ, _+ℤ_, _-ℤ_, _*ℤ_}
 use mir.Syntax.{w64}
 use mir.Facts.{toZ-ofZ}
 use borrow.Author.Needs.{needs}
-use Rattle.whole.specs.Signed.{C, loc, _⊕_, _⊖_, _⊗_}
-use Rattle.whole.proofs.Signed.{fits, value}
+use Rattle.whole.proofs.Signed.{C, loc, _⊕_, _⊖_, _⊗_, fits, value}
 use Rattle.flat.proofs.Three.{three-x, three-y}
 use Rattle.flat.proofs.turn.Statement.{statement}
 use Rattle.flat.proofs.turn.Tie as tie

@@ -1,11 +1,11 @@
 use mathlib.Core.Path.{_≡_, sym, _∙_}
-use mathlib.Core.Bool.{true, false}
+use mathlib.Core.Bool.{false}
 use borrow.Author.Needs.{needs}
 use borrow.Author.Tests.{lt-ltb, le-ltb}
 use lib.Dec.{ltb}
 use lib.ListN.{length}
-use Rattle.answers.specs.Bad.{badDepth, badSize, badQuantizer, anyBeyond}
-use Rattle.answers.specs.Limits.{COEF_LIMIT, LIST_LIMIT}
+use Rattle.answers.specs.Bad.{badDepth, badSize, badQuantizer}
+use Rattle.answers.specs.Limits.{LIST_LIMIT}
 use Rattle.fwd_transform.specs.Quantize.{answerOf}
 use Rattle.fwd_transform.proofs.check.Statement.{statement}
 use Rattle.fwd_transform.proofs.check.Tie as tie

@@ -1,7 +1,6 @@
-use mathlib.Core.Bool.{not}
-use mathlib.Core.Path.{sym, ap, _∙_}
+use mathlib.Core.Path.{sym, _∙_}
 use borrow.Author.Needs.{needs}
-use borrow.Author.Tests.{eq-eqb, ne-eqb}
+use borrow.Author.Tests.{ne-eqb}
 use Rattle.fwd_transform.specs.ForwardWht.{whtAnswer}
 use Rattle.fwd_transform.proofs.check_wht.Statement.{statement}
 use Rattle.fwd_transform.proofs.check_wht.Tie as tie

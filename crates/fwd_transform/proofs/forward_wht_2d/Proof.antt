@@ -1,7 +1,6 @@
-use mathlib.Core.Path.{_≡_, sym, ap, _∙_}
+use mathlib.Core.Path.{_≡_, sym, _∙_}
 use native.Mathlib.Omega.{arith}
 use borrow.Author.Needs.{needs}
-use Rattle.blocks.specs.Block.{columns}
 use Rattle.blocks.proofs.Blocks.{columns-length}
 use Rattle.answers.specs.Limits.{WHT_LIMIT}
 use Rattle.wht.specs.Wht.{wht}

@@ -1,23 +1,17 @@
-use mathlib.Core.Path.{_≡_, refl, sym, ap, _∙_}
-use mathlib.Core.List.{List}
-use Prim.Native.Nat.{ℕ, _+_, _-_, _≤_, _<_}
+use mathlib.Core.Path.{_≡_, refl, ap, _∙_}
+use Prim.Native.Nat.{_-_, _≤_}
 use native.Mathlib.Omega.{arith}
 use borrow.Author.Needs.{needs}
-use lib.Dec.{T}
-use lib.IntN.{ℤ, pos, natAbs}
+use lib.IntN.{pos}
 use lib.ListN.{length, getD, set, length-set}
-use lib.Signed.{nonNeg}
 use mir.Syntax.{w64}
 use mir.ValLaws.{toZ-ofZ}
 use Rattle.whole.specs.Lists.{fill}
-use Rattle.whole.specs.Signed.{rd}
+use Rattle.whole.proofs.Signed.{rd, rd-ok}
 use Rattle.whole.proofs.Lists.{fill-none, fill-more}
-use Rattle.whole.proofs.Signed.{rd-ok}
 use Rattle.answers.specs.Limits.{codeable}
 use Rattle.answers.proofs.Passed.{codeable-most}
-use Rattle.quant.specs.Places.{quantizerAt}
-use Rattle.quant.specs.Token.{quantize}
-use Rattle.fwd_transform.specs.Quantize.{Input, tokenAt, tokensOf}
+use Rattle.fwd_transform.specs.Quantize.{Input, tokenAt}
 use Rattle.fwd_transform.proofs.Quantizer.{turn, filled}
 use Rattle.fwd_transform.proofs.tokens_in_place.Statement.{statement}
 use Rattle.fwd_transform.proofs.tokens_in_place.Tie as tie

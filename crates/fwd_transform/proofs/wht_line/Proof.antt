@@ -1,10 +1,7 @@
-use mathlib.Core.List.{List}
-use mathlib.Core.Path.{_≡_, ap, _∙_}
+use mathlib.Core.Path.{_∙_}
 use native.Mathlib.Omega.{arith}
 use borrow.Author.Needs.{needs}
-use lib.IntN.{ℤ}
-use Rattle.blocks.specs.Block.{line, put, on}
-use Rattle.wht.specs.Wht.{wht}
+use Rattle.blocks.specs.Block.{line, on}
 use Rattle.fwd_transform.proofs.wht_line.Statement.{statement}
 use Rattle.fwd_transform.proofs.wht_line.Tie as tie
 

@@ -2,14 +2,8 @@ use mathlib.Core.Path.{refl}
 use lib.Dec.{lit≤}
 use Rattle.answers.specs.Bad.{badQuantizer}
 use borrow.Author.Needs.{needs}
-use borrow.Author.Needs.{needs}
 use Rattle.numbers.proofs.show_coefficients.Statement.{statement}
 use Rattle.numbers.proofs.show_coefficients.Tie as tie
-use Rattle.numbers.proofs.show_coefficients.Reads as reads
-use Rattle.numbers.proofs.show_coefficients.Lts as lts
-use Rattle.numbers.proofs.show.Reads as show-reads
-use Rattle.quant.proofs.AcQuant.dequant.Reads as AcQuant-dequant-reads
-use Rattle.quant.proofs.DcQuant.dequant.Reads as DcQuant-dequant-reads
 
 -- src/main.rt:118:9
 dequant-requires : tie.Need-dequant-requires

@@ -2,11 +2,6 @@ use Prim.Native.Nat.{_-_, _≤_}
 use borrow.Author.Needs.{needs}
 use Rattle.numbers.proofs.show_row.Statement.{statement}
 use Rattle.numbers.proofs.show_row.Tie as tie
-use Rattle.numbers.proofs.show_row.Reads as reads
-use Rattle.numbers.proofs.show_row.Lts as lts
-use Rattle.io.proofs.print_decimal.Reads as print-decimal-reads
-use Rattle.io.proofs.write_all.Reads as write-all-reads
-use Rattle.numbers.proofs.wide.Reads as wide-reads
 
 abbrev Inv-loop : tie.InvT-loop
 Inv-loop samples i₀ t3 t4 i-end i = i ≤ i-end

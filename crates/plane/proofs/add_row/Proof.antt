@@ -7,7 +7,7 @@ use lib.IntN.{pos}
 use lib.ListN.{length, getD, length-set}
 use mir.Syntax.{w64}
 use borrow.Author.Needs.{needs}
-use Rattle.whole.specs.Signed.{rd}
+use Rattle.whole.proofs.Signed.{rd}
 use Rattle.whole.specs.Within.{AllWithin}
 use Rattle.whole.proofs.Within.{back}
 use Rattle.plane.specs.Plane.{rowAfter}

@@ -1,12 +1,10 @@
 -- `primitives::butterfly` meets its contract.
-use mathlib.Core.Path.{_≡_, sym, ap, _∙_}
-use mathlib.Core.Bool.{Bool, true, false}
+use mathlib.Core.Path.{_∙_}
 use lib.Dec.{lit<}
-use lib.IntN.{ℤ}
-use mir.Syntax.{w32, w64}
+use mir.Syntax.{w64}
 use mir.Facts.{toZ-ofZ}
 use borrow.Author.Needs.{needs}
-use Rattle.whole.proofs.Signed.{is-in, is-bd, rd-ok}
+use Rattle.whole.proofs.Signed.{rd-ok}
 use Rattle.whole.proofs.Within.{back}
 use Rattle.primitives.specs.Rotations.{applyB, put}
 use Rattle.primitives.proofs.butterfly.Statement.{statement}

@@ -1,8 +1,7 @@
 use mir.Syntax.{w64}
 use borrow.Author.Needs.{needs}
 use Rattle.primitives.specs.Rotations.{applyH}
-use Rattle.whole.proofs.Signed.{fits, value}
-use Rattle.whole.specs.Signed.{_⊕_, _⊖_, loc}
+use Rattle.whole.proofs.Signed.{fits, value, _⊕_, _⊖_, loc}
 use Rattle.primitives.proofs.hadamard.Statement.{statement}
 use Rattle.primitives.proofs.hadamard.Tie as tie
 

@@ -1,8 +1,8 @@
-use mathlib.Core.Path.{_≡_, sym, ap, _∙_}
+use mathlib.Core.Path.{_≡_}
 use mathlib.Core.Bool.{true, false}
-use Prim.Native.Nat.{ℕ, _+_, _%_, _^_, _<_, _≤_}
+use Prim.Native.Nat.{ℕ, _+_, _^_, _<_}
 use native.Mathlib.Omega.{arith}
-use lib.Dec.{lit<, lit≤, T}
+use lib.Dec.{lit<, T}
 use lib.IntN.{ℤ, pos, negsuc, _+ℤ_, natAbs}
 use lib.Signed.{quotZ, remZ, ltZ, nonNeg}
 use mir.Syntax.{w32, w64}
@@ -12,7 +12,7 @@ use Rattle.primitives.proofs.Cosine.{modulo-lt}
 use Rattle.primitives.specs.Cosine.{modulo}
 use Rattle.whole.proofs.Parts.{abs-parts, apart, ltZ-false, ltZ-true, nonNeg-parts, quot-N, quot-P, rem-N, rem-P, sum-parts}
 use Rattle.whole.proofs.Within.{back, sfits-N, sfits-P, within-add, within-lit, within-sfits}
-use Rattle.whole.specs.Parts.{N, P}
+use Rattle.whole.specs.Parts.{N}
 use Rattle.whole.specs.Within.{Within}
 use Rattle.primitives.proofs.modulo128.Statement.{statement}
 use Rattle.primitives.proofs.modulo128.Tie as tie

@@ -1,12 +1,8 @@
-use mathlib.Core.Path.{_≡_, sym, ap, ap₂, _∙_}
-use mathlib.Core.Bool.{Bool, true, false}
-use Prim.Native.Nat.{_^_, _*_, _+_}
-use mir.Syntax.{w32, w64}
+use mir.Syntax.{w64}
 use mir.Facts.{toZ-ofZ}
 use borrow.Author.Needs.{needs}
 use Rattle.primitives.specs.Rotations.{applySB, put, turnX, turnY}
-use Rattle.whole.proofs.Signed.{fits, value}
-use Rattle.whole.specs.Signed.{C, _⊕_, _⊖_, _⊗_, loc}
+use Rattle.whole.proofs.Signed.{fits, value, C, _⊕_, _⊖_, _⊗_, loc}
 use Rattle.primitives.proofs.sb.Statement.{statement}
 use Rattle.primitives.proofs.sb.Tie as tie
 

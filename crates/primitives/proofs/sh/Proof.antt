@@ -1,11 +1,8 @@
-use mathlib.Core.Path.{_≡_, sym, ap, ap₂, _∙_}
-use Prim.Native.Nat.{_^_, _*_, _+_}
 use lib.Dec.{lit≤}
 use mir.Syntax.{w64}
 use borrow.Author.Needs.{needs}
 use Rattle.primitives.specs.Rotations.{applySH}
-use Rattle.whole.proofs.Signed.{bound, fits, rd-ok, value}
-use Rattle.whole.specs.Signed.{C, _⊕_, _⊖_, loc}
+use Rattle.whole.proofs.Signed.{bound, fits, rd-ok, value, _⊕_, _⊖_, loc}
 use Rattle.primitives.proofs.sh.Statement.{statement}
 use Rattle.primitives.proofs.sh.Tie as tie
 

@@ -1,18 +1,16 @@
 -- `primitives::turn` meets its contract: the four-multiply form by its expressions, the two-multiply forms by the laws of Rotations.
-use mathlib.Core.Path.{_≡_, sym, ap, ap₂, _∙_}
-use Prim.Native.Nat.{ℕ, _%_, _/_, _^_}
+use mathlib.Core.Path.{ap, ap₂, _∙_}
+use Prim.Native.Nat.{_^_}
 use native.Mathlib.Omega.{arith}
 use lib.Dec.{lit≤}
 use lib.IntN.{ℤ, _+ℤ_, _-ℤ_, _*ℤ_}
-use mir.Syntax.{w32, w64}
+use mir.Syntax.{w64}
 use mir.Facts.{toZ-ofZ}
 use borrow.Author.Needs.{needs}
 use Rattle.whole.specs.Round.{Round2}
-use Rattle.whole.specs.Signed.{C, loc, _⊕_, _⊖_, _⊗_}
+use Rattle.whole.proofs.Signed.{C, loc, _⊕_, _⊖_, _⊗_, rd-ok, fits, value, within}
 use Rattle.whole.specs.Within.{Within}
-use Rattle.whole.proofs.Signed.{rd-ok, fits, value, within}
-use Rattle.primitives.specs.Cosine.{modulo, Cos64, Sin64}
-use Rattle.primitives.specs.Rotations.{turnX, turnY, Turned}
+use Rattle.primitives.specs.Rotations.{turnX, turnY}
 use Rattle.primitives.proofs.Cosine.{sin-even, sin-odd}
 use Rattle.primitives.proofs.Rotations.{even-x, even-y, odd-x, odd-y}
 use Rattle.primitives.proofs.turn.Statement.{statement}

@@ -1,19 +1,18 @@
-use mathlib.Core.Path.{_≡_, sym, ap, _∙_}
+use mathlib.Core.Path.{_≡_, sym, _∙_}
 use mathlib.Core.Bool.{true, false}
-use Prim.Native.Nat.{ℕ, _+_, _^_, _<_, _≤_}
+use Prim.Native.Nat.{_+_, _<_}
 use native.Mathlib.Omega.{arith}
 use lib.Dec.{lit<}
-use lib.IntN.{ℤ, pos, negsuc, negℤ, _+ℤ_, _-ℤ_}
+use lib.IntN.{ℤ, pos, negsuc, _+ℤ_, _-ℤ_}
 use lib.Signed.{ltZ}
 use mir.Syntax.{w32, w64}
 use mir.Val.{SFits}
 use mir.Facts.{toZ-ofZ}
 use Rattle.primitives.proofs.Cosine.{wrap-in, wrap-less, wrap-more}
 use Rattle.primitives.specs.Cosine.{wrap32}
-use Rattle.whole.proofs.Parts.{apart, ltZ-false, ltZ-true, neg-N, neg-P, sum-parts}
-use Rattle.whole.proofs.Within.{back, sfits-N, sfits-P, sfits-parts, within-add, within-le, within-lit, within-sfits, within-sub}
-use Rattle.whole.specs.Parts.{N, P}
-use Rattle.whole.specs.Signed.{rd}
+use Rattle.whole.proofs.Parts.{ltZ-false, ltZ-true, sum-parts}
+use Rattle.whole.proofs.Within.{back, sfits-N, sfits-P, sfits-parts, within-add, within-lit, within-sfits, within-sub}
+use Rattle.whole.proofs.Signed.{rd}
 use Rattle.whole.specs.Within.{Within}
 use Rattle.primitives.proofs.wrapping_sub_i32.Statement.{statement}
 use Rattle.primitives.proofs.wrapping_sub_i32.Tie as tie

@@ -7,8 +7,7 @@ use lib.IntN.{pos, natAbs}
 use lib.ListN.{length}
 use mir.Syntax.{w64}
 use borrow.Author.Needs.{needs}
-use Rattle.whole.specs.Signed.{rd}
-use Rattle.whole.proofs.Signed.{rd-ok}
+use Rattle.whole.proofs.Signed.{rd, rd-ok}
 use Rattle.answers.specs.Bad.{anyBeyond}
 use Rattle.answers.specs.Limits.{codeable}
 use Rattle.answers.proofs.Passed.{codeable-most}

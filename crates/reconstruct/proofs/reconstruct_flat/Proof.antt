@@ -7,8 +7,7 @@ use lib.ListN.{length, getD, set, replicate, length-replicate, getD-replicate}
 use lib.Seq.{getD-set-same}
 use mir.Syntax.{w64}
 use mir.ValLaws.{toZ-ofZ}
-use Rattle.whole.specs.Signed.{rd}
-use Rattle.whole.proofs.Signed.{rd-ok}
+use Rattle.whole.proofs.Signed.{rd, rd-ok}
 use Rattle.quant.specs.Token.{dequant}
 use Rattle.whole.proofs.Within.{within-abs}
 use Rattle.blocks.specs.Inverse.{dcOnly}

@@ -6,14 +6,12 @@ use lib.Dec.{lit≤}
 use lib.IntN.{ℤ, pos, _*ℤ_}
 use mir.Syntax.{w64}
 use Rattle.whole.specs.Round.{Round2}
-use Rattle.whole.specs.Signed.{loc, lit, _⊗_}
+use Rattle.whole.proofs.Signed.{loc, lit, _⊗_, rd-ok, fits, value, within}
 use Rattle.whole.specs.Within.{Within}
 use Rattle.whole.proofs.Round.{round2-within}
-use Rattle.whole.proofs.Signed.{rd-ok, fits, value, within}
 use Rattle.whole.proofs.Within.{within-le, within-mul, within-lit}
-use Rattle.steps.specs.Shapes.{turned}
+use Rattle.steps.specs.Step.{turned}
 use Rattle.blocks.specs.Inverse.{bits, dcOnly}
-use borrow.Author.Needs.{needs}
 use Rattle.idct.proofs.fast.dc_value.Statement.{statement}
 use Rattle.idct.proofs.fast.dc_value.Tie as tie
 

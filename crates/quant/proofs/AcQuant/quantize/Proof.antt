@@ -1,14 +1,13 @@
 use mathlib.Core.Path.{_≡_, ap, _∙_}
-use Prim.Native.Nat.{ℕ, min, _+_, _-_, _*_, _/_, _^_, _≤_}
+use Prim.Native.Nat.{_-_, _*_, _^_, _≤_}
 use native.Mathlib.Omega.{arith}
 use borrow.Author.Needs.{needs}
 use lib.IntN.{natAbs}
 use mir.Syntax.{w32, w64}
 use mir.ValLaws.{toZ-ofZ}
-use Rattle.whole.specs.Signed.{rd}
-use Rattle.whole.proofs.Signed.{rd-ok}
+use Rattle.whole.proofs.Signed.{rd, rd-ok}
 use Rattle.answers.proofs.Passed.{quantizer}
-use Rattle.quant.specs.Token.{dqDenom, rounded, withSign, quantize}
+use Rattle.quant.specs.Token.{dqDenom, rounded, quantize}
 use Rattle.quant.proofs.Machine.{number, plain-cast, wide-most}
 use Rattle.quant.proofs.AcQuant.quantize.Statement.{statement}
 use Rattle.quant.proofs.AcQuant.quantize.Tie as tie
