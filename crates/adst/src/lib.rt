@@ -15,21 +15,21 @@ const SINPI_3_9: i64 = 13377;
 
 const SINPI_4_9: i64 = 15212;
 
-// 2^n, the count of numbers.
-fn size(n: u32) -> usize
+// n0 = 2^n, the count of numbers.
+fn side(n: u32) -> usize
     requires { ⌜ (2 ≤ n) × (n ≤ 4) ⌝ }
     ensures { λ r. ⌜ (r ≡ 2 ^ n) × (r ≤ 16) ⌝ }
 {
     1usize << n
 }
 
-// The input permutation: t[2i] = copy_t[n0 - 1 - 2i], t[2i + 1] = copy_t[2i].
+// The input permutation, §8.7.1.4: t[2i] = copy_t[n0 - 1 - 2i], t[2i + 1] = copy_t[2i].
 fn adst_input_permute(t: &mut [i64; 32], n: u32)
     requires { ⌜ (3 ≤ n) × (n ≤ 4) ⌝ }
     ensures { λ _. ⌜ now (t .exit) ≡ step (Move (2 ^ n) (adstIn n)) (now (t .entry)) ⌝ }
 {
     let copy_t = *t;
-    let n0 = size(n);
+    let n0 = side(n);
     for i in 0..n0 / 2 {
         t[2 * i] = copy_t[n0 - 1 - 2 * i];
         t[2 * i + 1] = copy_t[2 * i];
@@ -54,19 +54,19 @@ fn output_place(n: u32, k: usize) -> usize
     4 * (c ^ b) + 2 * (b ^ a) + a
 }
 
-// The output permutation, for n = 3 or 4.
+// The output permutation, §8.7.1.5, for n = 3 or 4.
 fn adst_output_permute(t: &mut [i64; 32], n: u32)
     requires { ⌜ (3 ≤ n) × (n ≤ 4) ⌝ }
     ensures { λ _. ⌜ now (t .exit) ≡ step (Move (2 ^ n) (adstOut n)) (now (t .entry)) ⌝ }
 {
     let copy_t = *t;
-    let n0 = size(n);
+    let n0 = side(n);
     for k in 0..n0 {
         t[k] = copy_t[output_place(n, k)];
     }
 }
 
-// The inverse ADST of t[0] to t[3].
+// The inverse ADST of t[0] to t[3], §8.7.1.6.
 fn inverse_adst4(t: &mut [i64; 32])
     requires { ⌜ FourWithin (2 ^ 46) (now t) ⌝ }
     ensures { λ _. ⌜ now (t .exit) ≡ adst4 (now (t .entry)) ⌝ }
@@ -94,7 +94,7 @@ fn inverse_adst4(t: &mut [i64; 32])
     t[3] = primitives::round2(x0 + x1 - x3, 14);
 }
 
-// ADST8, by the numbers of its steps.
+// ADST8, §8.7.1.7, by the numbers of its steps.
 // 2. SB(2i, 1 + 2i, 30 - 8i, 1) for i = 0 to 3.
 fn adst8_stage2(t: &[i64; 32], s: &mut [i64; 16])
     requires { ⌜ Ok step2 (Fine2 (2 ^ 46)) (each 4 eight2) (arrays (now t) (now s)) ⌝ }
@@ -182,7 +182,7 @@ fn inverse_adst8(t: &mut [i64; 32])
     adst8_stage9(t);
 }
 
-// ADST16, by the numbers of its steps.
+// ADST16, §8.7.1.8, by the numbers of its steps.
 // 2. SB(2i, 1 + 2i, 31 - 4i, 1) for i = 0 to 7.
 fn adst16_stage2(t: &[i64; 32], s: &mut [i64; 16])
     requires { ⌜ Ok step2 (Fine2 (2 ^ 46)) (each 8 sixteen2) (arrays (now t) (now s)) ⌝ }
@@ -326,7 +326,7 @@ fn inverse_adst16(t: &mut [i64; 32])
     adst16_stage12(t);
 }
 
-// The inverse ADST of t[0] to t[2^n - 1], n = 2 to 4.
+// The inverse ADST of t[0] to t[2^n - 1], n = 2 to 4, §8.7.1.9.
 pub fn inverse_adst(t: &mut [i64; 32], n: u32)
     requires { ⌜ (2 ≤ n) × (n ≤ 4) × Ok step2 (Fine2 (2 ^ 46)) (adstSteps n) (fresh (now t)) ⌝ }
     ensures { λ _. ⌜ now (t .exit) ≡ adst n (now (t .entry)) ⌝ }

@@ -5,6 +5,7 @@ use Prim.Native.Nat.{ℕ}
 use Rattle.answers.specs.declared.Answer.{Answer}
 use Rattle.answers.specs.declared.Answer.the-variants.{Done, Depth, Size, LosslessSize, Kind, Quantizer, Length, Plane, Token, Coefficient, Mark, Version, CutShort, TooLarge, LosslessByte}
 
+-- the number of an answer
 abbrev pub number : Answer → ℕ
 number Done = 0
 number Depth = 1

@@ -31,6 +31,7 @@ AREA_LIMIT = 4096
 abbrev pub LIST_LIMIT : ℕ
 LIST_LIMIT = 1024
 
+-- the depths that there are: 8, 10 and 12
 abbrev pub isDepth : ℕ → Bool
 isDepth depth = eqb depth 8 || (eqb depth 10 || eqb depth 12)
 

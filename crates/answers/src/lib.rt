@@ -5,7 +5,7 @@ ghost use lib.ListN.{length};
 ghost use Rattle.answers.specs.Answers.{number};
 ghost use Rattle.answers.specs.Bad.{badDepth, badSize, badLossless, badKind, anyBeyond};
 
-// The answers of all calls and of the VBK reader.
+// The answers of all calls and of the VBK reader, in the order of their numbers, 0 to 14.
 pub enum Answer {
     Done,
     Depth,

@@ -14,10 +14,11 @@ use Rattle.whole.specs.Within.{Within}
 unfoldable pub line : ℕ → ℕ → ℕ → List ℤ → List ℤ
 line start step n s = fill n (λ k. getD s (start + k * step) (pos 0)) (replicate 32 (pos 0))
 
--- row i and column j of a block
+-- row i of a block
 abbrev pub row : ℕ → ℕ → List ℤ → List ℤ
 row n0 i = line (i * n0) 1 n0
 
+-- column j of a block
 abbrev pub column : ℕ → ℕ → List ℤ → List ℤ
 column n0 j = line j n0 n0
 
@@ -33,7 +34,7 @@ rows T n0 s = anew n0 (λ i j. getD (T (row n0 i s)) j (pos 0)) s
 unfoldable pub columns : (List ℤ → List ℤ) → (ℤ → ℤ) → ℕ → List ℤ → List ℤ
 columns T r n0 s = anew n0 (λ i j. r (getD (T (column n0 j s)) i (pos 0))) s
 
--- as the code goes, line by line: the first n numbers of t, each through r, to the places of a line
+-- line by line, as the code goes: the first n numbers of t, each through r, to the places of a line
 unfoldable pub put : (ℤ → ℤ) → ℕ → ℕ → ℕ → List ℤ → List ℤ → List ℤ
 put r start step n t = times n (λ k s. set s (start + k * step) (r (getD t k (pos 0))))
 

@@ -19,21 +19,22 @@ pub data Pass : Type 0 where
   Dct Adst : Pass
   Wht : ℕ → Pass
 
--- of a line of 2^n numbers
+-- a line of 2^n numbers through the transform of its pass
 unfoldable pub apply : Pass → ℕ → List ℤ → List ℤ
 apply Dct n t = dct n t
 apply Adst n t = adst n t
 apply (Wht shift) n t = wht shift t
 
--- DCT or ADST
+-- the transform of a pass that is not lossless
 abbrev pub lossy : Bool → Pass
 lossy true = Dct
 lossy false = Adst
 
--- types 0 and 1 have DCT rows, types 0 and 2 DCT columns; lossless is the WHT, at shift 2 on rows and 0 on columns
+-- types 0 and 1 have DCT rows; lossless is the WHT at shift 2
 abbrev pub rowPass : ℕ → Bool → Pass
 rowPass type lossless = cond lossless (Wht 2) (lossy (eqb type 0 || eqb type 1))
 
+-- types 0 and 2 have DCT columns; lossless is the WHT at shift 0
 abbrev pub columnPass : ℕ → Bool → Pass
 columnPass type lossless = cond lossless (Wht 0) (lossy (eqb type 0 || eqb type 2))
 
@@ -41,12 +42,12 @@ columnPass type lossless = cond lossless (Wht 0) (lossy (eqb type 0 || eqb type 
 abbrev pub bits : ℕ → ℕ
 bits n = min 6 (n + 2)
 
--- and none if lossless
+-- each number after the columns: rounded, unless lossless
 unfoldable pub rounding : ℕ → Bool → ℤ → ℤ
 rounding n true z = z
 rounding n false z = Round2 z (bits n)
 
--- the block of 2^n by 2^n numbers at the front of the list
+-- the residual of the block of 2^n by 2^n numbers at the front of the list, in its place
 unfoldable pub inverse2d : ℕ → ℕ → Bool → List ℤ → List ℤ
 inverse2d n type lossless = rowsThenColumns (apply (rowPass type lossless) n) (apply (columnPass type lossless) n) (rounding n lossless) (2 ^ n)
 

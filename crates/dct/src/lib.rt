@@ -7,21 +7,21 @@ ghost use Rattle.primitives.specs.Brev.{Brev};
 ghost use Rattle.steps.specs.Step.{Move, step, Fine};
 ghost use Rattle.dct.specs.Dct.{turn4a, turn4b, turn5a, turn5b, steps2, steps3, steps4, steps5, steps6, steps7, tail, dctSteps};
 
-// 2^n, the count of numbers.
-fn size(n: u32) -> usize
+// n0 = 2^n, the count of numbers.
+fn side(n: u32) -> usize
     requires { ⌜ (2 ≤ n) × (n ≤ 5) ⌝ }
     ensures { λ r. ⌜ (r ≡ 2 ^ n) × (4 ≤ r) × (r ≤ 32) × (4 ≤ n → 16 ≤ r) ⌝ }
 {
     1usize << n
 }
 
-// The permutation: t[i] = copy_t[brev(n, i)].
+// The permutation, §8.7.1.2: t[i] = copy_t[brev(n, i)].
 pub fn idct_permute(t: &mut [i64; 32], n: u32)
     requires { ⌜ (2 ≤ n) × (n ≤ 5) ⌝ }
     ensures { λ _. ⌜ now (t .exit) ≡ step (Move (2 ^ n) (Brev n)) (now (t .entry)) ⌝ }
 {
     let copy_t = *t;
-    let n0 = size(n);
+    let n0 = side(n);
     for i in 0..n0 {
         t[i] = copy_t[primitives::brev(n, i)];
     }
@@ -99,6 +99,7 @@ fn stage4b(t: &mut [i64; 32])
     }
 }
 
+// 4. n = 5: 4a, then 4b.
 fn stage4(t: &mut [i64; 32], n: u32)
     requires { ⌜ Ok step (Fine (2 ^ 46)) (steps4 n (2 ^ n)) (now t) ⌝ }
     ensures { λ _. ⌜ now (t .exit) ≡ run step (steps4 n (2 ^ n)) (now (t .entry)) ⌝ }
@@ -146,6 +147,7 @@ fn stage5b(t: &mut [i64; 32], n: usize, n0: usize)
     }
 }
 
+// 5. n of 4 or more: 5a, then 5b.
 fn stage5(t: &mut [i64; 32], n: u32, n0: usize)
     requires { ⌜ (n ≤ 5) × (4 ≤ n → 16 ≤ n0) × (n0 ≤ 32) × Ok step (Fine (2 ^ 46)) (steps5 n n0) (now t) ⌝ }
     ensures { λ _. ⌜ now (t .exit) ≡ run step (steps5 n n0) (now (t .entry)) ⌝ }
@@ -185,7 +187,7 @@ fn stages(t: &mut [i64; 32], n: u32)
     requires { ⌜ (2 ≤ n) × (n ≤ 5) × Ok step (Fine (2 ^ 46)) (tail n) (now t) ⌝ }
     ensures { λ _. ⌜ now (t .exit) ≡ run step (tail n) (now (t .entry)) ⌝ }
 {
-    let n0 = size(n);
+    let n0 = side(n);
     stage2(t, n0);
     stage3(t, n, n0);
     stage4(t, n);
@@ -194,7 +196,7 @@ fn stages(t: &mut [i64; 32], n: u32)
     stage7(t, n0);
 }
 
-// The recursive process, of the permuted numbers: n falls to 2.
+// The recursive process, §8.7.1.3, of the permuted numbers: n falls to 2.
 pub fn inverse_dct(t: [i64; 32], n: u32) -> [i64; 32]
     requires { ⌜ (2 ≤ n) × (n ≤ 5) × Ok step (Fine (2 ^ 46)) (dctSteps n) t ⌝ }
     ensures { λ r. ⌜ r ≡ run step (dctSteps n) t ⌝ }

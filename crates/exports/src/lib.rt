@@ -19,7 +19,7 @@ ghost use Rattle.exports.specs.Run.{FIGURES, RunTold};
 // Numbers that a run tells of itself: depth, width, height, records read, touched count.
 pub const FIGURES: usize = 5;
 
-// The 2D driver.
+// The 2D driver: the residual of a block, in its place.
 #[no_mangle]
 pub extern "C" fn bracetwill_inverse_transform_2d(
     block: &mut [i64],
@@ -111,7 +111,7 @@ pub extern "C" fn bracetwill_quantize_block_tx(
     answers::code(a)
 }
 
-// Coefficients to tokens, at a small size and depth 8.
+// Coefficients to tokens, at size 0 and depth 8.
 #[no_mangle]
 pub extern "C" fn bracetwill_quantize_block(coefs: &mut [i64], dc_quant: i32, ac_quant: i32) -> u32
     ensures { λ r. ⌜ Told quantizeAnswer coefsAfter (record { coefs = now (coefs .entry); dc = record { 0 = «dc_quant» }; ac = record { 0 = «ac_quant» }; size = 0; depth = 8 }) r (now (coefs .exit)) ⌝ }

@@ -13,6 +13,7 @@ use Rattle.answers.specs.declared.Answer.{Answer}
 use Rattle.blocks.specs.Block.{rows, columns}
 use Rattle.wht.specs.Wht.{wht}
 
+-- all columns, then all rows
 unfoldable pub forwardWht : List ℤ → List ℤ
 forwardWht block = rows (wht 0) 4 (columns (wht 0) (λ z. z) 4 block)
 

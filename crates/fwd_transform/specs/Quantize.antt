@@ -26,23 +26,24 @@ pub record Input : Type 0 where
 
 -- its table of answers
 unfoldable pub answerOf : Input → ℕ
-answerOf i =
+answerOf u =
     lowest
-    ((1, badDepth (i .depth))
-    ∷ (2, badSize (i .size))
-    ∷ (5, badQuantizer (i .dc .0) || badQuantizer (i .ac .0))
-    ∷ (6, ltb LIST_LIMIT (length (i .coefs)))
-    ∷ (9, anyBeyond COEF_LIMIT (length (i .coefs)) (i .coefs))
+    ((1, badDepth (u .depth))
+    ∷ (2, badSize (u .size))
+    ∷ (5, badQuantizer (u .dc .0) || badQuantizer (u .ac .0))
+    ∷ (6, ltb LIST_LIMIT (length (u .coefs)))
+    ∷ (9, anyBeyond COEF_LIMIT (length (u .coefs)) (u .coefs))
     ∷ [])
 
 -- the token at place k
 unfoldable pub tokenAt : Input → ℕ → ℤ
-tokenAt i k = quantize (i .size) (codeable (i .depth)) (quantizerAt (i .dc) (i .ac) k) (getD (i .coefs) k (pos 0))
+tokenAt u k = quantize (u .size) (codeable (u .depth)) (quantizerAt (u .dc) (u .ac) k) (getD (u .coefs) k (pos 0))
 
+-- the tokens of the whole list
 unfoldable pub tokensOf : Input → List ℤ
-tokensOf i = tabulate (tokenAt i) (length (i .coefs))
+tokensOf u = tabulate (tokenAt u) (length (u .coefs))
 
 -- the promise: the answer, and the list afterwards, which a refusal leaves as it was
-pub record Quantized (i : Input) (answer : Answer) (after : List ℤ) : Type 0 where
-  pub answered : number answer ≡ answerOf i
-  pub written : after ≡ cond (eqb (answerOf i) 0) (tokensOf i) (i .coefs)
+pub record Quantized (u : Input) (answer : Answer) (after : List ℤ) : Type 0 where
+  pub answered : number answer ≡ answerOf u
+  pub written : after ≡ cond (eqb (answerOf u) 0) (tokensOf u) (u .coefs)

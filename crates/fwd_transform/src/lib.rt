@@ -53,7 +53,7 @@ fn wht_line(block: &mut [i64], start: usize, step: usize)
     store(block, &t, start, step, 4);
 }
 
-// The inverse's column pass is its own inverse.
+// All columns: the column pass of the inverse undoes itself.
 fn wht_columns(block: &mut [i64])
     requires { ⌜ (length (now block) ≡ 16) × FirstWithin (2 ^ 23) 16 (now block) ⌝ }
     ensures { λ _. ⌜ now (block .exit) ≡ columns (wht 0) (λ z. z) 4 (now (block .entry)) ⌝ }
@@ -63,7 +63,7 @@ fn wht_columns(block: &mut [i64])
     }
 }
 
-// The inverse's row pass shifts four times the tokens by 2 first, so these are the tokens.
+// All rows: the row pass of the inverse first shifts four times the tokens by 2, so these are the tokens.
 fn wht_rows(block: &mut [i64])
     requires { ⌜ (length (now block) ≡ 16) × FirstWithin (2 ^ 24) 16 (now block) ⌝ }
     ensures { λ _. ⌜ now (block .exit) ≡ rows (wht 0) 4 (now (block .entry)) ⌝ }
@@ -155,7 +155,7 @@ pub fn quantize_block_tx(
     answer
 }
 
-// Coefficients to tokens, at a small size and depth 8.
+// Coefficients to tokens, at size 0 and depth 8.
 pub fn quantize_block(coefs: &mut [i64], dc: DcQuant, ac: AcQuant) -> Answer
     ensures { λ r. ⌜ Quantized (record { coefs = now (coefs .entry); dc = dc; ac = ac; size = 0; depth = 8 }) r (now (coefs .exit)) ⌝ }
 {

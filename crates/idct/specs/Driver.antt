@@ -13,6 +13,7 @@ use Rattle.answers.specs.Bad.{badLossless, badKind, anyBeyond}
 use Rattle.blocks.specs.Block.{live}
 use Rattle.blocks.specs.Inverse.{inverse2d}
 
+-- what a driver is given
 pub record Input : Type 0 where
   pub block : List ℤ
   pub n : ℕ
@@ -53,6 +54,7 @@ answerOf u =
 unfoldable pub blockAfter : Input → List ℤ
 blockAfter u = cond (eqb (answerOf u) 0) (inverse2d (u .n) (u .type) (u .lossless) (u .block)) (u .block)
 
+-- the promise: the answer, and the list afterwards
 pub record Driven (u : Input) (answer : Answer) (after : List ℤ) : Type 0 where
   pub answered : number answer ≡ answerOf u
   pub written : after ≡ blockAfter u

@@ -20,31 +20,37 @@ struct Number {
     next: usize,
 }
 
+// A number of 64 bits without a sign, and the place behind it.
 pub struct Unsigned {
     pub value: u64,
     pub next: usize,
 }
 
+// A number of 32 bits without a sign, and the place behind it.
 pub struct Unsigned32 {
     pub value: u32,
     pub next: usize,
 }
 
+// A number of 8 bits without a sign, and the place behind it.
 pub struct Unsigned8 {
     pub value: u8,
     pub next: usize,
 }
 
+// A number of 64 bits with a sign, and the place behind it.
 pub struct Signed {
     pub value: i64,
     pub next: usize,
 }
 
+// A number of 32 bits with a sign, and the place behind it.
 pub struct Signed32 {
     pub value: i32,
     pub next: usize,
 }
 
+// A 0 or a 1 as a flag, and the place behind it.
 pub struct Flag {
     pub value: bool,
     pub next: usize,
@@ -156,6 +162,7 @@ fn read_word(line: &[u8], at: usize) -> Number {
     }
 }
 
+// Broken if the number has a sign.
 fn without_sign(n: Number) -> Unsigned {
     if n.minus {
         return Unsigned {
@@ -169,6 +176,7 @@ fn without_sign(n: Number) -> Unsigned {
     }
 }
 
+// Broken if 64 bits do not hold the number with its sign.
 fn with_sign(n: Number) -> Signed {
     let m = n.value;
     if n.minus {
@@ -207,10 +215,12 @@ pub fn read_first(line: &[u8]) -> Unsigned {
     without_sign(read_number(line, 0))
 }
 
+// The number behind the space at `at`; broken if it has a sign.
 pub fn read_unsigned(line: &[u8], at: usize) -> Unsigned {
     without_sign(read_word(line, at))
 }
 
+// The same, broken if 32 bits do not hold it.
 pub fn read_unsigned32(line: &[u8], at: usize) -> Unsigned32 {
     let n = read_unsigned(line, at);
     let v = n.value;
@@ -226,6 +236,7 @@ pub fn read_unsigned32(line: &[u8], at: usize) -> Unsigned32 {
     }
 }
 
+// The same, broken if 8 bits do not hold it.
 pub fn read_unsigned8(line: &[u8], at: usize) -> Unsigned8 {
     let n = read_unsigned(line, at);
     let v = n.value;
@@ -241,6 +252,7 @@ pub fn read_unsigned8(line: &[u8], at: usize) -> Unsigned8 {
     }
 }
 
+// The same, broken if it is neither 0 nor 1.
 pub fn read_flag(line: &[u8], at: usize) -> Flag {
     let n = read_unsigned(line, at);
     let v = n.value;
@@ -256,10 +268,12 @@ pub fn read_flag(line: &[u8], at: usize) -> Flag {
     }
 }
 
+// The number behind the space at `at`, with its sign; broken if 64 bits do not hold it.
 pub fn read_signed(line: &[u8], at: usize) -> Signed {
     with_sign(read_word(line, at))
 }
 
+// The same, broken if 32 bits do not hold it.
 pub fn read_signed32(line: &[u8], at: usize) -> Signed32 {
     let n = read_signed(line, at);
     let v = n.value;
@@ -315,6 +329,7 @@ fn read_run(line: &[u8], at: usize) -> Run {
     }
 }
 
+// `count` elements from `from` on become this value.
 fn fill(into: &mut [i64], from: usize, count: usize, value: i64)
     requires { ⌜ from + count ≤ length (now into) ⌝ }
 {
@@ -405,6 +420,7 @@ pub fn same(line: &[u8], at: usize, found: i64) -> usize {
     BROKEN
 }
 
+// The same of a number without a sign.
 pub fn same_unsigned(line: &[u8], at: usize, found: u64) -> usize {
     let n = read_unsigned(line, at);
     if n.value == found {

@@ -10,10 +10,11 @@ use Rattle.plane.specs.declared.Plane.{Plane}
 abbrev pub placeOf : Plane → ℕ → ℕ → ℕ
 placeOf p row column = row * p .width + column
 
--- the row and the column of a place
+-- the row of a place
 abbrev pub rowOf : Plane → ℕ → ℕ
 rowOf p k = k / p .width
 
+-- the column of a place
 abbrev pub columnOf : Plane → ℕ → ℕ
 columnOf p k = k % p .width
 

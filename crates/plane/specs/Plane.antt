@@ -1,4 +1,4 @@
--- A block added back into a plane, cut to it. Specification §8.6.2, the last step.
+-- A block added back into a plane, cut to it. Specification §8.6.2, step 4.
 use mathlib.Core.Bool.{Bool, cond, _&&_}
 use mathlib.Core.List.{List}
 use Prim.Native.Nat.{ℕ, min, _+_, _-_}

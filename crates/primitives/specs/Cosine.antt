@@ -25,9 +25,11 @@ cosAt a =
     (cond (leb a 64) (negℤ (getD cos64Lookup (64 - a) (pos 0)))
     (cond (leb a 96) (negℤ (getD cos64Lookup (a - 64) (pos 0))) (getD cos64Lookup (128 - a) (pos 0))))
 
+-- cos64(angle), the wave at the remainder of the angle by 128
 unfoldable pub Cos64 : ℤ → ℤ
 Cos64 angle = cosAt (modulo 128 angle)
 
+-- sin64(angle) = cos64(angle - 32)
 unfoldable pub Sin64 : ℤ → ℤ
 Sin64 angle = Cos64 (angle -ℤ pos 32)
 

@@ -7,9 +7,10 @@ use Rattle.primitives.specs.Cosine.{Cos64, Sin64}
 abbrev pub rounded : ℕ → ℕ
 rounded m = (m + 8192) / 16384
 
--- of x and y of a rotation of values within p and q, not rounded
+-- of x of a rotation of values within p and q, not rounded
 abbrev pub grownX : ℕ → ℕ → ℤ → ℕ
 grownX p q angle = p * natAbs (Cos64 angle) + q * natAbs (Sin64 angle)
 
+-- of y of such a rotation
 abbrev pub grownY : ℕ → ℕ → ℤ → ℕ
 grownY p q angle = p * natAbs (Sin64 angle) + q * natAbs (Cos64 angle)

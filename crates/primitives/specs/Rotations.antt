@@ -8,10 +8,11 @@ use lib.ListN.{getD, set}
 use Rattle.whole.specs.Round.{Round2}
 use Rattle.primitives.specs.Cosine.{Cos64, Sin64}
 
--- x and y of a rotation of (p, q), not rounded
+-- x of a rotation of (p, q) by an angle, not rounded
 unfoldable pub turnX : ℤ → ℤ → ℤ → ℤ
 turnX p q angle = p *ℤ Cos64 angle -ℤ q *ℤ Sin64 angle
 
+-- y of such a rotation
 unfoldable pub turnY : ℤ → ℤ → ℤ → ℤ
 turnY p q angle = p *ℤ Sin64 angle +ℤ q *ℤ Cos64 angle
 

@@ -50,7 +50,7 @@ fn cos64_lookup(i: usize) -> i64
     }
 }
 
-// x / 2^k, rounded: an exact half goes up, below zero too.
+// Round2(x, k): x / 2^k to the nearest, an exact half upward, below zero too.
 pub fn round2(x: i64, k: u32) -> i64
     requires { ⌜ (1 ≤ k) × (k ≤ 30) × Within (2 ^ 62) x ⌝ }
     ensures { λ r. ⌜ r ≡ Round2 x k ⌝ }
@@ -102,7 +102,7 @@ pub fn cos64(angle: i32) -> i64
     cos64_lookup(128 - angle2)
 }
 
-// The difference with wrap-around.
+// The difference a - b with wrap-around.
 pub fn wrapping_sub_i32(a: i32, b: i32) -> i32
     ensures { λ r. ⌜ r ≡ wrap32 (a -ℤ b) ⌝ }
 {

@@ -11,10 +11,12 @@ use Rattle.wht.specs.Wht.{wht}
 use Rattle.quant.specs.Token.{quantize}
 use Rattle.blocks.specs.Inverse.{inverse2d}
 
+-- a row of the table
 pub record Row : Type 0 where
   pub given : List ℤ
   pub said : List ℤ
 
+-- a row of one number
 abbrev one : ℤ → ℤ → Row
 one given said = record { given = given ∷ []; said = said ∷ [] }
 
@@ -26,6 +28,7 @@ dcOnly x said = record { given = inverse2d 2 0 false (x ∷ replicate 15 (pos 0)
 abbrev token : ℕ → ℤ → ℤ → ℤ → Row
 token size q coef said = one (quantize size (codeable 8) q coef) said
 
+-- the scope's numbers marked (P), in its order
 unfoldable pub numbers : List Row
 numbers =
     one (pos (Brev 5 1)) (pos 16)
@@ -46,11 +49,12 @@ numbers =
     ∷ token 3 (pos 3) (pos 2) (pos 1)
     ∷ []
 
--- the two sides of a table
+-- what the definitions give
 abbrev pub givens : List Row → List (List ℤ)
 givens [] = []
 givens (r ∷ rs) = r .given ∷ givens rs
 
+-- what the scope says
 abbrev pub saids : List Row → List (List ℤ)
 saids [] = []
 saids (r ∷ rs) = r .said ∷ saids rs

@@ -63,6 +63,7 @@ pub data Header (s : List ℕ) : ℕ → Type 0 where
   area : AREA_LIMIT < areaOf s → Header s 6
   samples : length s < firstRecord s → Header s 7
 
+-- the number of each step of the header, 0 for none
 abbrev pub headerNumbers : List ℕ
 headerNumbers = 0 ∷ 13 ∷ 12 ∷ 10 ∷ 11 ∷ 1 ∷ 13 ∷ 12 ∷ []
 
@@ -73,6 +74,7 @@ pub data Record (s : List ℕ) (at : ℕ) : ℕ → Type 0 where
   tokens : length s < nextAt s at → Record s at 3
   lossless : 1 < losslessAt s at → Record s at 4
 
+-- the number of each step of a record, 0 for none
 abbrev pub recordNumbers : List ℕ
 recordNumbers = 0 ∷ 12 ∷ 2 ∷ 12 ∷ 14 ∷ []
 
@@ -82,5 +84,6 @@ pub data Run (s samples answers : List ℕ) : ℕ → Type 0 where
   answers-room : length answers < RECORD_LIMIT → Run s samples answers 1
   header : {k : ℕ} → Header s k → Run s samples answers (suc k)
 
+-- the number of each step of a run, 0 for none
 abbrev pub runNumbers : List ℕ
 runNumbers = 0 ∷ 6 ∷ 13 ∷ 12 ∷ 10 ∷ 11 ∷ 1 ∷ 13 ∷ 12 ∷ []

@@ -5,11 +5,11 @@ use lib.Dec.{eqb}
 use lib.IntN.{ℤ, pos, negsuc, negℤ, natAbs, _*ℤ_}
 use lib.Signed.{quotZ}
 
--- dqDenom: 2 at 32 by 32
+-- dqDenom, step 1 of §8.6.2: 2 at 32 by 32
 abbrev pub dqDenom : ℕ → ℕ
 dqDenom size = cond (eqb size 3) 2 1
 
--- token × quantizer, divided by dqDenom toward zero
+-- step 2 of §8.6.2: token × quantizer, divided by dqDenom toward zero
 unfoldable pub dequant : ℕ → ℤ → ℤ → ℤ
 dequant size q token = quotZ (token *ℤ q) (pos (dqDenom size))
 
@@ -22,9 +22,9 @@ abbrev pub withSign : ℤ → ℕ → ℤ
 withSign (pos a) m = pos m
 withSign (negsuc a) m = negℤ (pos m)
 
--- the magnitude, doubled at 32 by 32, over the quantizer; at most cap; the sign kept
+-- the magnitude, doubled at 32 by 32, over the quantizer and rounded; at most `most`; the sign kept
 unfoldable pub quantize : ℕ → ℕ → ℤ → ℤ → ℤ
-quantize size cap q coef = withSign coef (min cap (rounded (natAbs q) (natAbs coef * dqDenom size)))
+quantize size most q coef = withSign coef (min most (rounded (natAbs q) (natAbs coef * dqDenom size)))
 
 -- the token that dequantizing and quantizing give back: itself, but that an odd one under quantizer 1 at 32 by 32 is one nearer zero
 unfoldable pub givenBack : ℕ → ℤ → ℤ → ℤ

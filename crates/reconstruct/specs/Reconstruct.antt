@@ -33,10 +33,11 @@ pub record Input : Type 0 where
   pub lossless : Bool
   pub depth : ℕ
 
--- n0 = 4, 8, 16, 32, and how many numbers a block has
+-- n0 of a size number: 4, 8, 16, 32
 abbrev pub side : ℕ → ℕ
 side size = 2 ^ (size + 2)
 
+-- how many numbers a block has
 abbrev pub area : ℕ → ℕ
 area size = side size * side size
 
@@ -73,12 +74,12 @@ answerOf u =
     ∷ []
     )
 
--- its part for the tokens
+-- the part of the table for the tokens
 unfoldable pub tokenAnswer : ℕ → DcQuant → AcQuant → ℕ → List ℤ → ℕ
 tokenAnswer size dc ac depth tokens =
     lowest ((8, anyBeyond (codeable depth) (length tokens) tokens) ∷ (9, badCoefficient size dc ac tokens) ∷ [])
 
--- its part that needs no token and no sample, only how many there are
+-- the part of the table that needs no token and no sample, only how many there are
 unfoldable pub shapeOf : ℕ → Plane → ℕ → ℕ → DcQuant → AcQuant → ℕ → Bool → ℕ → ℕ
 shapeOf samples plane size tokens dc ac kind lossless depth =
     lowest
@@ -105,11 +106,11 @@ pub record Accepted (size : ℕ) (dc : DcQuant) (ac : AcQuant) (kind : ℕ) (los
 unfoldable pub onlyFirst : ℕ → List ℤ → Bool
 onlyFirst kind tokens = eqb kind 0 && not (live 1 (length tokens - 1) tokens)
 
--- the residual: the inverse transform of the coefficients
+-- the residual, step 3 of §8.6.2: the inverse transform of the coefficients
 unfoldable pub residual : ℕ → DcQuant → AcQuant → ℕ → Bool → List ℤ → List ℤ
 residual size dc ac kind lossless tokens = inverse2d (size + 2) kind lossless (dequantAll size dc ac tokens)
 
--- the samples after it is added back, each clipped to 0 .. top
+-- the samples after the residual is added back, step 4 of §8.6.2, each clipped to 0 .. top
 unfoldable pub added : Plane → ℕ → ℕ → ℕ → ℕ → DcQuant → AcQuant → ℕ → Bool → List ℤ → List ℕ → List ℕ
 added plane top x y size dc ac kind lossless tokens samples =
     planeAfter plane top x y (side size) (λ i j. getD (residual size dc ac kind lossless tokens) (i * side size + j) (pos 0)) samples
@@ -121,7 +122,7 @@ samplesAfter u =
     (added (u .plane) (largest (u .depth)) (u .x) (u .y) (u .size) (u .dc) (u .ac) (u .kind) (u .lossless) (u .tokens) (u .samples))
     (u .samples)
 
--- the promise
+-- the promise: the answer, and the samples afterwards
 pub record Reconstructed (u : Input) (answer : Answer) (after : List ℕ) : Type 0 where
   pub answered : number answer ≡ answerOf u
   pub written : after ≡ samplesAfter u

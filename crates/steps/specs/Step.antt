@@ -47,6 +47,7 @@ pub data Step : Type 0 where
   A4 : Step
   Wh : ℕ → Step
 
+-- T after one step
 unfoldable pub step : Step → List ℤ → List ℤ
 step (Bf a b angle flip) t = applyB t a b angle flip
 step (Hd a b flip) t = applyH t a b flip
@@ -55,6 +56,7 @@ step (Move k f) t = move (pos 0) k f t
 step A4 t = adst4 t
 step (Wh shift) t = wht4 shift t
 
+-- the first four numbers are within m
 abbrev pub FourWithin : ℕ → List ℤ → Type 0
 FourWithin m t = Within m (getD t 0 (pos 0)) × Within m (getD t 1 (pos 0)) × Within m (getD t 2 (pos 0)) × Within m (getD t 3 (pos 0))
 

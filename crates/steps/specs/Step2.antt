@@ -8,6 +8,7 @@ use Rattle.whole.specs.Within.{Within}
 use Rattle.primitives.specs.Rotations.{applySB, applySH}
 use Rattle.steps.specs.Step.{Step, step, Fine}
 
+-- the two arrays of the document
 pub record Arrays : Type 0 where
   pub T : List ℤ
   pub S : List ℤ
@@ -18,6 +19,7 @@ pub data Step2 : Type 0 where
   SB : ℕ → ℕ → ℤ → Bool → Step2
   SH : ℕ → ℕ → Step2
 
+-- T and S after one step
 unfoldable pub step2 : Step2 → Arrays → Arrays
 step2 (on s) u = record { T = step s (u .T); S = u .S }
 step2 (SB a b angle flip) u = record { T = u .T; S = applySB (u .T) (u .S) a b angle flip }

@@ -4,6 +4,7 @@ use Prim.Native.Nat.{ℕ}
 use Rattle.reconstruct.specs.Reconstruct.{Input, answerOf, samplesAfter}
 use Rattle.vbk.specs.Replay.{Reconstruction, Rebuilt, rebuildAt}
 
+-- the answer and the samples of `reconstruct_block`, for the numbers of a record
 unfoldable pub reconstruction : Reconstruction
 reconstruction plane width height x y size tokens dc ac kind lossless depth =
     let u : Input =

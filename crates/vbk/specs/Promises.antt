@@ -25,10 +25,11 @@ roomy samples answers = leb AREA_LIMIT (length samples) && leb RECORD_LIMIT (len
 unfoldable pub runAnswer : List ℕ → List ℕ → List ℕ → ℕ
 runAnswer s samples answers = cond (roomy samples answers) (headerAnswer s) 6
 
--- the plane and the answers stand at the front of the rooms lent for them
+-- the plane after the run at the front of the room for the samples
 abbrev pub samplesFor : List ℕ → List ℕ → List ℕ
 samplesFor s samples = runOf s .plane ++ drop (areaOf s) samples
 
+-- every record's answer at the front of the room for the answers
 abbrev pub answersFor : List ℕ → List ℕ → List ℕ
 answersFor s answers = runOf s .answers ++ drop (length (runOf s .answers)) answers
 
@@ -48,14 +49,16 @@ abbrev pub outcomeOf : Run → List ℕ → List ℕ → Outcome
 outcomeOf r samples answers =
     ran (r .fields .version) (r .fields .depth) (r .fields .width) (r .fields .height) (take (r .count) answers) (take (r .fields .width * r .fields .height) samples) (r .touched)
 
--- the text stands at the front of the room lent for it; where a room is too short, there is no text and nothing changes.
--- The last two lines follow, and stand here for whoever writes `&out[..r]`
+-- the lent rooms hold any run's plane, answers and text
 unfoldable pub printable : List ℕ → List ℕ → List ℕ → Bool
 printable samples answers out = roomy samples answers && leb TEXT_LIMIT (length out)
 
+-- the text of a file's run
 abbrev pub printed : List ℕ → List ℕ
 printed s = text (replay reconstruction s)
 
+-- the text stands at the front of the room lent for it; where a room is too short, there is no text and nothing changes.
+-- The last two lines follow, and stand here for whoever writes `&out[..r]`
 pub record Printed (s samples answers out : List ℕ) (r : ℕ) (samples′ answers′ out′ : List ℕ) : Type 0 where
   pub length-is : r ≡ cond (printable samples answers out) (length (printed s)) 0
   pub text-is : out′ ≡ cond (printable samples answers out) (printed s ++ drop (length (printed s)) out) out

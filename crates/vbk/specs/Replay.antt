@@ -26,6 +26,7 @@ pub record After : Type 0 where
   pub plane : List ℕ
   pub touched : ℕ
 
+-- no record is left: the plane as it is
 abbrev pub noRecord : List ℕ → After
 noRecord plane = record { answers = []; plane = plane; touched = 0 }
 
@@ -81,6 +82,7 @@ module _ (R : Reconstruction) (s : List ℕ) where
   unfoldable pub recordsOf : After
   recordsOf = records (length s) (firstRecord s) (planeOf s)
 
+  -- the outcome: a refusal's number, or all that the run gives
   unfoldable pub replay : Outcome
   replay =
       cond (eqb (headerAnswer s) 0)

@@ -30,6 +30,7 @@ struct Step {
     next: usize,
 }
 
+// The answer's number, as the byte that is kept of it.
 fn number8(a: Answer) -> u8
     ensures { λ r. ⌜ r ≡ number a ⌝ }
 {
@@ -168,6 +169,7 @@ pub struct Run {
     pub touched: usize,
 }
 
+// A run that is refused: the answer, and zeros.
 fn refused(answer: Answer) -> Run
     ensures { λ r. ⌜ r ≡ record { answer = answer; fields = noFields; count = 0; touched = 0 } ⌝ }
 {

@@ -7,13 +7,15 @@ use lib.Dec.{ltb}
 use lib.IntN.{ℤ, pos, negsuc}
 use lib.ListN.{getD}
 
--- one, two and four bytes, the least first
+-- one byte
 abbrev pub le1 : List ℕ → ℕ → ℕ
 le1 s at = getD s at 0
 
+-- two bytes, the least first
 abbrev pub le2 : List ℕ → ℕ → ℕ
 le2 s at = getD s at 0 + 256 * getD s (at + 1) 0
 
+-- four bytes, the least first
 abbrev pub le4 : List ℕ → ℕ → ℕ
 le4 s at = getD s at 0 + 256 * getD s (at + 1) 0 + 65536 * getD s (at + 2) 0 + 16777216 * getD s (at + 3) 0
 

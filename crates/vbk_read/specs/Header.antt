@@ -17,18 +17,23 @@ use Rattle.vbk_read.specs.declared.Header.{Header}
 abbrev pub HEADER_BYTES : ℕ
 HEADER_BYTES = 10
 
+-- the version: two bytes at 3
 abbrev pub versionOf : List ℕ → ℕ
 versionOf s = le2 s 3
 
+-- the depth: one byte at 5
 abbrev pub depthOf : List ℕ → ℕ
 depthOf s = le1 s 5
 
+-- the width: two bytes at 6
 abbrev pub widthOf : List ℕ → ℕ
 widthOf s = le2 s 6
 
+-- the height: two bytes at 8
 abbrev pub heightOf : List ℕ → ℕ
 heightOf s = le2 s 8
 
+-- how many samples the plane has
 abbrev pub areaOf : List ℕ → ℕ
 areaOf s = widthOf s * heightOf s
 
@@ -76,6 +81,7 @@ fieldsOf s =
       next = record { at = HEADER_BYTES };
     }
 
+-- zeros, under a refusal
 abbrev pub noFields : Fields
 noFields = record { version = 0; depth = 0; width = 0; height = 0; next = record { at = 0 } }
 

@@ -18,9 +18,11 @@ use Rattle.vbk_read.specs.declared.Record.{Record}
 abbrev pub HEAD_BYTES : ℕ
 HEAD_BYTES = 11
 
+-- the size number of the record at a place: its byte 4
 abbrev pub sizeAt : List ℕ → ℕ → ℕ
 sizeAt s at = le1 s (at + 4)
 
+-- the lossless byte of the record at a place: its byte 6
 abbrev pub losslessAt : List ℕ → ℕ → ℕ
 losslessAt s at = le1 s (at + 6)
 
@@ -38,6 +40,7 @@ headAt s at =
       next = record { at = at + HEAD_BYTES };
     }
 
+-- zeros, where the reading ends
 abbrev pub noHead : Head
 noHead = record { x = 0; y = 0; size = 0; kind = 0; lossless = 0; dc = 0; ac = 0; next = record { at = 0 } }
 
@@ -66,6 +69,7 @@ endAnswer s at =
     ∷ (12, ltb (length s) (nextAt s at))
     ∷ [])
 
+-- the reading ends with the record at a place
 abbrev pub ends : List ℕ → ℕ → Bool
 ends s at = not (eqb (endAnswer s at) 0)
 

@@ -20,16 +20,19 @@ pub struct Cursor {
     pub at: usize,
 }
 
+// A byte that was read, and the place past it.
 pub struct GotU8 {
     pub value: u8,
     pub next: Cursor,
 }
 
+// A number of two bytes that was read, and the place past it.
 pub struct GotU16 {
     pub value: u16,
     pub next: Cursor,
 }
 
+// A signed number of four bytes that was read, and the place past it.
 pub struct GotI32 {
     pub value: i32,
     pub next: Cursor,
@@ -44,6 +47,7 @@ pub struct Fields {
     pub next: Cursor,
 }
 
+// The answer of the header's checks, and what it says: zeros under a refusal.
 pub struct Header {
     pub answer: Answer,
     pub fields: Fields,
@@ -69,26 +73,29 @@ pub struct Record {
     pub next: Cursor,
 }
 
-fn wide16(b: u8) -> u16
+// A byte as two.
+fn byte16(b: u8) -> u16
     ensures { λ r. ⌜ (r ≡ b) × (r < 256) ⌝ }
 {
     b as u16
 }
 
-fn wide32(b: u8) -> u32
+// A byte as four.
+fn byte32(b: u8) -> u32
     ensures { λ r. ⌜ (r ≡ b) × (r < 256) ⌝ }
 {
     b as u32
 }
 
+// Four bytes, the least first.
 fn word(s: &[u8], at: usize) -> u32
     requires { ⌜ at + 3 < length (now s) ⌝ }
     ensures { λ r. ⌜ r ≡ le4 (now (s .entry)) at ⌝ }
 {
-    let a = wide32(s[at]);
-    let b = wide32(s[at + 1]);
-    let c = wide32(s[at + 2]);
-    let d = wide32(s[at + 3]);
+    let a = byte32(s[at]);
+    let b = byte32(s[at + 1]);
+    let c = byte32(s[at + 2]);
+    let d = byte32(s[at + 3]);
     a + 256 * b + 65536 * c + 16777216 * d
 }
 
@@ -103,6 +110,7 @@ fn signed(u: u32) -> i32
     v as i32
 }
 
+// A token as the calls take it.
 fn long(v: i32) -> i64
     ensures { λ r. ⌜ r ≡ v ⌝ }
 {
@@ -110,6 +118,7 @@ fn long(v: i32) -> i64
 }
 
 impl Cursor {
+    // One byte.
     pub fn read_u8(self, s: &[u8]) -> GotU8
         requires { ⌜ self .at < length (now s) ⌝ }
         ensures { λ r. ⌜ Took (le1 (now (s .entry)) (self .at)) (self .at + 1) (r .value) (r .next .at) ⌝ }
@@ -121,19 +130,21 @@ impl Cursor {
         }
     }
 
+    // Two bytes, the least first.
     pub fn read_u16(self, s: &[u8]) -> GotU16
         requires { ⌜ self .at + 1 < length (now s) ⌝ }
         ensures { λ r. ⌜ Took (le2 (now (s .entry)) (self .at)) (self .at + 2) (r .value) (r .next .at) ⌝ }
     {
         let at = self.at;
-        let a = wide16(s[at]);
-        let b = wide16(s[at + 1]);
+        let a = byte16(s[at]);
+        let b = byte16(s[at + 1]);
         GotU16 {
             value: a + 256 * b,
             next: Cursor { at: at + 2 },
         }
     }
 
+    // Four bytes, the least first, in two's complement.
     pub fn read_i32(self, s: &[u8]) -> GotI32
         requires { ⌜ self .at + 3 < length (now s) ⌝ }
         ensures { λ r. ⌜ Took (signed32 (le4 (now (s .entry)) (self .at))) (self .at + 4) (r .value) (r .next .at) ⌝ }
@@ -238,6 +249,7 @@ fn read_fields(s: &[u8]) -> Fields
     }
 }
 
+// How many samples a plane has.
 pub fn area(width: u16, height: u16) -> usize
     ensures { λ r. ⌜ r ≡ width * height ⌝ }
 {
@@ -271,7 +283,7 @@ fn header_answer(s: &[u8]) -> Answer
     if f.version != 1 {
         return Answer::Version;
     }
-    if answers::bad_depth(wide32(f.depth)) {
+    if answers::bad_depth(byte32(f.depth)) {
         return Answer::Depth;
     }
     let n = area(f.width, f.height);
@@ -284,6 +296,7 @@ fn header_answer(s: &[u8]) -> Answer
     Answer::Done
 }
 
+// The header, checked: what it says, or its answer and zeros.
 pub fn read_header(s: &[u8]) -> Header
     ensures { λ r. ⌜ Headed (now (s .entry)) r ⌝ }
 {
@@ -392,6 +405,7 @@ impl<'a> Reader<'a> {
     }
 }
 
+// A reader of the file from a place on.
 pub fn open<'a>(file: &'a [u8], at: usize) -> Reader<'a>
     ensures { λ r. ⌜ (r .file ≡ file .entry) × (r .at ≡ at) ⌝ }
 {

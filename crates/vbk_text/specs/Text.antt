@@ -47,6 +47,7 @@ rowLine plane width r = (83 ∷ []) ⨾ samplesFrom plane (r * width) width ⨾ 
 abbrev pub touchedLine : ℕ → List ℕ
 touchedLine n = numberLine 84 n
 
+-- the text of a run: `E` alone, or `VBK`, every `B`, every `S` and `T`
 unfoldable pub text : Outcome → List ℕ
 text (refused n) = refusalLine n
 text (ran version depth width height answers plane touched) =

@@ -11,6 +11,7 @@ ghost use Rattle.vbk_text.specs.Writing.{Room, Put};
 // No run's text is longer.
 pub const TEXT_LIMIT: usize = 45040;
 
+// One byte.
 fn put_byte(out: &mut [u8], at: usize, b: u8) -> usize
     requires { ⌜ Room (now out) at (b ∷ []) ⌝ }
     ensures { λ r. ⌜ Put (now (out .entry)) at (b ∷ []) r (now (out .exit)) ⌝ }
@@ -19,6 +20,7 @@ fn put_byte(out: &mut [u8], at: usize, b: u8) -> usize
     at + 1
 }
 
+// The ASCII byte of a digit.
 fn digit(d: u64) -> u8
     requires { ⌜ d < 10 ⌝ }
     ensures { λ r. ⌜ r ≡ 48 + d ⌝ }

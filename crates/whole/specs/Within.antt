@@ -10,6 +10,7 @@ pub record Within (m : ℕ) (z : ℤ) : Type 0 where
   pub hi : P z ≤ m
   pub lo : N z ≤ m
 
+-- every number of the list is within m
 pub record AllWithin (m : ℕ) (l : List ℤ) : Type 0 where
   pub each : (i : ℕ) → Within m (getD l i (pos 0))
 

@@ -50,9 +50,9 @@ loop-again c =
     let n = s .args .n in
     let i = l .loop .i in
     let t = s .args .t .now in
-    let e = rd-ok w64 {z = getD t (z .size .result - 1 - 2 * i) (pos 0)} (c .before .t .given) in
+    let e = rd-ok w64 {z = getD t (z .side .result - 1 - 2 * i) (pos 0)} (c .before .t .given) in
     let f = rd-ok w64 {z = getD t (2 * i) (pos 0)} (c .t2 .given) in
-    (omega arith, fill-two (λ k. getD t (adstIn n k) (pos 0)) t i (l .loop .inv .1) (rw (e, f, z .size .ensures .0, from-end n i, from-start n i)))
+    (omega arith, fill-two (λ k. getD t (adstIn n k) (pos 0)) t i (l .loop .inv .1) (rw (e, f, z .side .ensures .0, from-end n i, from-start n i)))
 
 returns : tie.Need-returns Inv-loop μ-loop
 unfolding step move
@@ -62,7 +62,7 @@ returns c =
     let s = z .before .before in
     let n = s .args .n in
     let h = two-halves n (omega arith) in
-    fill-done _ _ (2 * l .loop .i) (2 ^ n) (omega (arith, z .size .ensures .0, h)) (omega (arith, z .size .ensures .0, h)) (l .loop .inv .1)
+    fill-done _ _ (2 * l .loop .i) (2 ^ n) (omega (arith, z .side .ensures .0, h)) (omega (arith, z .side .ensures .0, h)) (l .loop .inv .1)
 
 pub adst-input-permute-spec : {M : Type 1} → statement M
 adst-input-permute-spec =

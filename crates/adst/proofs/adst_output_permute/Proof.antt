@@ -37,7 +37,7 @@ returns c =
     let l = c .before in
     let z = l .before in
     let n = z .before .before .args .n in
-    fill-done _ _ (l .loop .k) (2 ^ n) (omega (arith, z .size .ensures .0)) (omega (arith, z .size .ensures .0)) (l .loop .inv .1)
+    fill-done _ _ (l .loop .k) (2 ^ n) (omega (arith, z .side .ensures .0)) (omega (arith, z .side .ensures .0)) (l .loop .inv .1)
 
 pub adst-output-permute-spec : {M : Type 1} → statement M
 adst-output-permute-spec =

@@ -26,12 +26,12 @@ loop-holds c = (omega arith, fill-none _ _)
 mul-t : tie.Need-mul-t Inv-loop μ-loop
 mul-t c =
     let z = c .before .before .before in
-    omega (arith, c .brev .ensures, brev-lt (z .before .before .args .n) (c .before .before .loop .i), z .size .ensures .0, z .size .ensures .2)
+    omega (arith, c .brev .ensures, brev-lt (z .before .before .args .n) (c .before .before .loop .i), z .side .ensures .0, z .side .ensures .2)
 
 array-copy-out-t : tie.Need-array-copy-out-t Inv-loop μ-loop
 array-copy-out-t c =
     let z = c .before .before .before in
-    omega (arith, c .brev .ensures, brev-lt (z .before .before .args .n) (c .before .before .loop .i), z .size .ensures .0, z .size .ensures .2)
+    omega (arith, c .brev .ensures, brev-lt (z .before .before .args .n) (c .before .before .loop .i), z .side .ensures .0, z .side .ensures .2)
 
 loop-again : tie.Need-loop-again Inv-loop μ-loop
 loop-again c =
@@ -46,7 +46,7 @@ returns c =
     let l = c .before in
     let z = l .before in
     let n = z .before .before .args .n in
-    fill-done _ _ (l .loop .i) (2 ^ n) (omega (arith, z .size .ensures .0)) (omega (arith, z .size .ensures .0)) (l .loop .inv .1)
+    fill-done _ _ (l .loop .i) (2 ^ n) (omega (arith, z .side .ensures .0)) (omega (arith, z .side .ensures .0)) (l .loop .inv .1)
 
 pub idct-permute-spec : {M : Type 1} → statement M
 idct-permute-spec =

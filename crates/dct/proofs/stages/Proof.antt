@@ -24,77 +24,77 @@ abbrev rest3 : ℕ → ℕ → List Step
 rest3 n n0 = steps3 n n0 ⨾ rest4 n n0
 
 -- what is left before and after each stage
-at2 : (c : tie.After-size) → let s = c .before .args in
-    Left step (Fine (2 ^ 46)) (steps2 (c .size .result) ⨾ rest3 (s .n) (c .size .result)) (s .t .now) (run step (tail (s .n)) (s .t .now))
+at2 : (c : tie.After-side) → let s = c .before .args in
+    Left step (Fine (2 ^ 46)) (steps2 (c .side .result) ⨾ rest3 (s .n) (c .side .result)) (s .t .now) (run step (tail (s .n)) (s .t .now))
 unfolding tail tailAt
-at2 c = rw (c .size .ensures .0) (left-all (c .before .pre .2))
+at2 c = rw (c .side .ensures .0) (left-all (c .before .pre .2))
 
 at3 : (c : tie.After-stage2) → let z = c .before .before in let s = z .before .args in
-    Left step (Fine (2 ^ 46)) (rest3 (s .n) (z .size .result)) (c .stage2 .last .0) (run step (tail (s .n)) (s .t .now))
-at3 c = let z = c .before .before in left-stage (steps2 (z .size .result)) (rest3 (z .before .args .n) (z .size .result)) (at2 (c .before .before)) (c .stage2 .ensures)
+    Left step (Fine (2 ^ 46)) (rest3 (s .n) (z .side .result)) (c .stage2 .last .0) (run step (tail (s .n)) (s .t .now))
+at3 c = let z = c .before .before in left-stage (steps2 (z .side .result)) (rest3 (z .before .args .n) (z .side .result)) (at2 (c .before .before)) (c .stage2 .ensures)
 
 at4 : (c : tie.After-stage3) → let z = c .before .before .before .before in let s = z .before .args in
-    Left step (Fine (2 ^ 46)) (rest4 (s .n) (z .size .result)) (c .stage3 .last .0) (run step (tail (s .n)) (s .t .now))
-at4 c = let z = c .before .before .before .before in left-stage (steps3 (z .before .args .n) (z .size .result)) (rest4 (z .before .args .n) (z .size .result)) (at3 (c .before .before)) (c .stage3 .ensures)
+    Left step (Fine (2 ^ 46)) (rest4 (s .n) (z .side .result)) (c .stage3 .last .0) (run step (tail (s .n)) (s .t .now))
+at4 c = let z = c .before .before .before .before in left-stage (steps3 (z .before .args .n) (z .side .result)) (rest4 (z .before .args .n) (z .side .result)) (at3 (c .before .before)) (c .stage3 .ensures)
 
 at5 : (c : tie.After-stage4) → let z = c .before .before .before .before .before .before in let s = z .before .args in
-    Left step (Fine (2 ^ 46)) (rest5 (s .n) (z .size .result)) (c .stage4 .last .0) (run step (tail (s .n)) (s .t .now))
-at5 c = let z = c .before .before .before .before .before .before in left-stage (steps4 (z .before .args .n) (z .size .result)) (rest5 (z .before .args .n) (z .size .result)) (at4 (c .before .before)) (rw (z .size .ensures .0) (c .stage4 .ensures))
+    Left step (Fine (2 ^ 46)) (rest5 (s .n) (z .side .result)) (c .stage4 .last .0) (run step (tail (s .n)) (s .t .now))
+at5 c = let z = c .before .before .before .before .before .before in left-stage (steps4 (z .before .args .n) (z .side .result)) (rest5 (z .before .args .n) (z .side .result)) (at4 (c .before .before)) (rw (z .side .ensures .0) (c .stage4 .ensures))
 
 at6 : (c : tie.After-stage5) → let z = c .before .before .before .before .before .before .before .before in let s = z .before .args in
-    Left step (Fine (2 ^ 46)) (rest6 (s .n) (z .size .result)) (c .stage5 .last .0) (run step (tail (s .n)) (s .t .now))
-at6 c = let z = c .before .before .before .before .before .before .before .before in left-stage (steps5 (z .before .args .n) (z .size .result)) (rest6 (z .before .args .n) (z .size .result)) (at5 (c .before .before)) (c .stage5 .ensures)
+    Left step (Fine (2 ^ 46)) (rest6 (s .n) (z .side .result)) (c .stage5 .last .0) (run step (tail (s .n)) (s .t .now))
+at6 c = let z = c .before .before .before .before .before .before .before .before in left-stage (steps5 (z .before .args .n) (z .side .result)) (rest6 (z .before .args .n) (z .side .result)) (at5 (c .before .before)) (c .stage5 .ensures)
 
 at7 : (c : tie.After-stage6) → let z = c .before .before .before .before .before .before .before .before .before .before in let s = z .before .args in
-    Left step (Fine (2 ^ 46)) (rest7 (s .n) (z .size .result)) (c .stage6 .last .0) (run step (tail (s .n)) (s .t .now))
-at7 c = let z = c .before .before .before .before .before .before .before .before .before .before in left-stage (steps6 (z .before .args .n) (z .size .result)) (rest7 (z .before .args .n) (z .size .result)) (at6 (c .before .before)) (c .stage6 .ensures)
+    Left step (Fine (2 ^ 46)) (rest7 (s .n) (z .side .result)) (c .stage6 .last .0) (run step (tail (s .n)) (s .t .now))
+at7 c = let z = c .before .before .before .before .before .before .before .before .before .before in left-stage (steps6 (z .before .args .n) (z .side .result)) (rest7 (z .before .args .n) (z .side .result)) (at6 (c .before .before)) (c .stage6 .ensures)
 
 stage2-requires : tie.Need-stage2-requires
 stage2-requires c κs =
     let z = c .before in
     let n = z .before .args .n in
-    let n0 = z .size .result in
-    let e = z .size .ensures in
+    let n0 = z .side .result in
+    let e = z .side .ensures in
     (e .1, e .2, left-first (steps2 n0) (rest3 n n0) (at2 (c .before)))
 
 stage3-requires : tie.Need-stage3-requires
 stage3-requires c κs =
     let z = c .before .before .before in
     let n = z .before .args .n in
-    let n0 = z .size .result in
-    let e = z .size .ensures in
+    let n0 = z .side .result in
+    let e = z .side .ensures in
     (e .1, e .2, left-first (steps3 n n0) (rest4 n n0) (at3 (c .before)))
 
 stage4-requires : tie.Need-stage4-requires
 stage4-requires c κs =
     let z = c .before .before .before .before .before in
     let n = z .before .args .n in
-    let n0 = z .size .result in
-    let e = z .size .ensures in
+    let n0 = z .side .result in
+    let e = z .side .ensures in
     rw (e .0) at (left-first (steps4 n n0) (rest5 n n0) (at4 (c .before)))
 
 stage5-requires : tie.Need-stage5-requires
 stage5-requires c κs =
     let z = c .before .before .before .before .before .before .before in
     let n = z .before .args .n in
-    let n0 = z .size .result in
-    let e = z .size .ensures in
+    let n0 = z .side .result in
+    let e = z .side .ensures in
     (z .before .pre .1, e .3, e .2, left-first (steps5 n n0) (rest6 n n0) (at5 (c .before)))
 
 stage6-requires : tie.Need-stage6-requires
 stage6-requires c κs =
     let z = c .before .before .before .before .before .before .before .before .before in
     let n = z .before .args .n in
-    let n0 = z .size .result in
-    let e = z .size .ensures in
+    let n0 = z .side .result in
+    let e = z .side .ensures in
     (e .1, e .2, left-first (steps6 n n0) (rest7 n n0) (at6 (c .before)))
 
 stage7-requires : tie.Need-stage7-requires
 stage7-requires c κs =
     let z = c .before .before .before .before .before .before .before .before .before .before .before in
     let n = z .before .args .n in
-    let n0 = z .size .result in
-    let e = z .size .ensures in
+    let n0 = z .side .result in
+    let e = z .side .ensures in
     (e .1, e .2, at7 (c .before) .ok)
 
 returns : tie.Need-returns

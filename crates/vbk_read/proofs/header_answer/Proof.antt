@@ -31,7 +31,7 @@ no4 : (c : tie.Else4) → not (eqb (versionOf (c .before .before .before .before
 no4 c = ap not (eq-eqb _ _ (sym (is (c .before .before) (λ (f : Fields). f .version)) ∙ c .if4 .left))
 
 depth-of : (c : tie.After-bad-depth) → c .bad-depth .result ≡ badDepth (depthOf (c .before .before .before .before .before .before .before .before .before .before .args .s .now))
-depth-of c = c .bad-depth .ensures ∙ ap badDepth (c .before .wide32 .ensures .0 ∙ is (c .before .before .before .before) (λ (f : Fields). f .depth))
+depth-of c = c .bad-depth .ensures ∙ ap badDepth (c .before .byte32 .ensures .0 ∙ is (c .before .before .before .before) (λ (f : Fields). f .depth))
 
 no5 : (c : tie.Else5) → badDepth (depthOf (c .before .before .before .before .before .before .before .before .before .before .before .args .s .now)) ≡ false
 no5 c = sym (depth-of (c .before)) ∙ c .if5 .left

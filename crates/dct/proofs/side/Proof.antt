@@ -4,8 +4,8 @@ use native.Mathlib.Omega.{arith}
 use borrow.Author.Needs.{needs}
 use lib.Dec.{lit≤}
 use Rattle.dct.proofs.Dct.{two-to-five}
-use Rattle.dct.proofs.size.Statement.{statement}
-use Rattle.dct.proofs.size.Tie as tie
+use Rattle.dct.proofs.side.Statement.{statement}
+use Rattle.dct.proofs.side.Tie as tie
 
 returns : tie.Need-returns
 returns c =
@@ -17,5 +17,5 @@ returns c =
     (refl, lit≤ tt, lit≤ tt, λ h. lit≤ tt)
     (c .args .n) (c .pre .0) (c .pre .1)
 
-pub size-spec : {M : Type 1} → statement M
-size-spec = tie.close (tie.spec (λ c. search needs) returns)
+pub side-spec : {M : Type 1} → statement M
+side-spec = tie.close (tie.spec (λ c. search needs) returns)
