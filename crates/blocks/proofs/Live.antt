@@ -2,7 +2,7 @@
 use mathlib.Core.Path.{_≡_, refl, sym, ap, _∙_}
 use mathlib.Core.Bool.{Bool, true, false}
 use mathlib.Core.List.{List}
-use Prim.Native.Nat.{ℕ, zero, suc, _+_, _≤_, _<_}
+use Prim.Native.Nat.{ℕ, zero, suc, _+_, _-_, _≤_, _<_}
 use native.Mathlib.Numerals.{add-one}
 use native.Mathlib.Omega.{arith}
 use borrow.Author.Tests.{lt-ltb, le-ltb, ltb-false}
@@ -54,3 +54,21 @@ live-none start s = refl
 pub dead-at : (start n : ℕ) (s : List ℤ) → live start n s ≡ false → (k : ℕ) → k < n → getD s (start + k) (pos 0) ≡ pos 0
 unfolding live
 dead-at start n s h k l = abs-zero (getD s (start + k) (pos 0)) (any-at (λ k. ltb 0 (natAbs (getD s (start + k) (pos 0)))) n k h l)
+
+-- a line that begins with a number is live; one that begins with 0 is live where the rest of it is
+pub live-first : (start n : ℕ) (s : List ℤ) → 1 ≤ n → (ofZ w64 (getD s start (pos 0)) ≡ 0 → ⊥) → true ≡ live start n s
+unfolding live
+live-first start n s l h =
+    let e : start + 0 ≡ start = omega arith in
+    sym (any-hit (λ k. ltb 0 (natAbs (getD s (start + k) (pos 0)))) 0 n (omega arith) (rw e (live-not (getD s start (pos 0)) h)))
+
+rest-live : (start n : ℕ) (s : List ℤ) → getD s start (pos 0) ≡ pos 0 → live (start + 1) n s ≡ live start (suc n) s
+unfolding live anyBelow
+rest-live start zero s h = let e : start + 0 ≡ start = omega arith in rw (e, h)
+rest-live start (suc n) s h = let e : start + suc n ≡ start + 1 + n = omega arith in rw (e, rest-live start n s h)
+
+pub live-rest : (start n : ℕ) (s : List ℤ) {b : Bool} → 1 ≤ n → SFits w64 (getD s start (pos 0)) → ofZ w64 (getD s start (pos 0)) ≡ 0 → b ≡ live (start + 1) (n - 1) s
+    → b ≡ live start n s
+live-rest start n s l f h e =
+    let q : suc (n - 1) ≡ n = omega arith in
+    e ∙ rw q at (rest-live start (n - 1) s (zero-bits f h))

@@ -3,7 +3,7 @@ use mathlib.Core.Path.{_≡_, refl, sym, ap, _∙_, subst}
 use mathlib.Core.Bool.{Bool, true, false}
 use mathlib.Core.List.{List}
 use Prim.Native.Nat.{ℕ, zero, suc, _+_, _*_, _^_, _≤_, _<_}
-use native.Mathlib.Nat.{le-antisymm}
+use native.Mathlib.Nat.{le-antisymm, mul-one}
 use native.Mathlib.Omega.{arith}
 use lib.IntN.{ℤ, pos}
 use lib.ListN.{length, getD, replicate}
@@ -17,7 +17,7 @@ use Rattle.steps.proofs.Shapes.{Zeros}
 use Rattle.blocks.specs.Block.{line, rows, columns, put, on, live, FirstWithin}
 use Rattle.blocks.specs.Inverse.{Pass, apply, Safe}
 use Rattle.blocks.proofs.Places.{in-row, in-column}
-use Rattle.blocks.proofs.Lines.{zeros-at, line-length, line-past, fill-line, put-length, on-length}
+use Rattle.blocks.proofs.Lines.{zeros-at, line-length, line-at, line-past, fill-line, put-length, on-length, on-still}
 use Rattle.blocks.proofs.Blocks.{rows-loop, row-to-come, columns-loop, column-to-come}
 use Rattle.blocks.proofs.Passes.{Valid, pass-stays, pass-zeros}
 use Rattle.blocks.proofs.Inverse.{side-most, row-safe, row-grown, column-safe, column-grown, zero-row}
@@ -115,6 +115,24 @@ turn-skip {p} {n} {n0} {base} {s₀} {g} {s} {t} {i} job turn hi e =
     record {
       count = omega arith;
       done = times-more _ i s₀ (turn .done) (sym (zero-row p n n0 (job .zeros) (job .short) (base i) s e));
+      long = turn .long;
+      wide = turn .wide;
+      clean = turn .clean;
+    }
+
+-- and so is one that was zeros before the pass began
+pub turn-dead : {p : Pass} {n n0 : ℕ} {base : ℕ → ℕ} {s₀ g s t : List ℤ} {i : ℕ} → Job p n n0 (λ z. z) base 1 s₀ g → Turn p n n0 (λ z. z) base 1 s₀ s t i → i < n0
+    → ((k : ℕ) → k < n0 → getD s₀ (base i + k) (pos 0) ≡ pos 0) → Turn p n n0 (λ z. z) base 1 s₀ s t (i + 1)
+turn-dead {p} {n} {n0} {base} {s₀} {g} {s} {t} {i} job turn hi e =
+    let u = line (base i) 1 n0 s in
+    let same : u ≡ line (base i) 1 n0 s₀ = ap (line (base i) 1 n0) (turn .done) ∙ job .come i hi in
+    let z : Zeros n0 u = record {
+      long = rw (line-length (base i) 1 n0 s) (job .short);
+      zeros = λ k l. ap (λ (x : List ℤ). getD x k (pos 0)) same ∙ line-at (base i) 1 n0 s₀ k (job .short) l ∙ rw (mul-one k) (e k l);
+    } in
+    record {
+      count = omega arith;
+      done = times-more _ i s₀ (turn .done) (sym (on-still (apply p n) (λ z. z) (base i) 1 n0 s (job .short) (λ k l. ap (λ (x : List ℤ). getD x k (pos 0)) (job .zeros u z))));
       long = turn .long;
       wide = turn .wide;
       clean = turn .clean;

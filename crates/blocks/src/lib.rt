@@ -1,6 +1,6 @@
 ghost use mathlib.Core.Path.{_≡_};
 ghost use Prim.Native.Nat.{ℕ, _+_, _*_, _^_, _≤_, _<_};
-ghost use lib.IntN.{pos};
+ghost use lib.IntN.{pos, natAbs};
 ghost use lib.ListN.{length, getD};
 ghost use Rattle.whole.specs.Lists.{fill};
 ghost use Rattle.whole.specs.Round.{Round2};
@@ -48,4 +48,42 @@ pub fn any_live(s: &[i64], start: usize, n: usize) -> bool
         }
     }
     any
+}
+
+// The same of a longer line: its first number is asked by itself, because a live line mostly begins with one.
+pub fn any_live_first(s: &[i64], start: usize, n: usize) -> bool
+    requires { ⌜ (1 ≤ n) × (start + n ≤ length (now s)) ⌝ }
+    ensures { λ r. ⌜ r ≡ live start n (now (s .entry)) ⌝ }
+{
+    if s[start] != 0 {
+        return true;
+    }
+    any_live(s, start + 1, n - 1)
+}
+
+// x + most on 64 bits: a number below -most wraps to the top. All three forms are one addition to the compiler.
+fn raised(x: i64, most: u64) -> u64
+    requires { ⌜ most ≤ 2 ^ 61 ⌝ }
+    ensures { λ r. ⌜ (r < most + most → natAbs x ≤ most) ⌝ }
+{
+    if x < 0 {
+        let m = answers::magnitude(x);
+        if m <= most {
+            return most - m;
+        }
+        return 18446744073709551615 - (m - most) + 1;
+    }
+    x as u64 + most
+}
+
+// The n numbers from start on, raised and or-ed together. None is above the whole, so below 2 × most no magnitude is above most.
+pub fn all_raised(s: &[i64], start: usize, n: usize, most: u64) -> u64
+    requires { ⌜ (start + n ≤ length (now s)) × (most ≤ 2 ^ 61) ⌝ }
+    ensures { λ r. ⌜ (r < most + most → (k : ℕ) → k < n → natAbs (getD (now (s .entry)) (start + k) (pos 0)) ≤ most) ⌝ }
+{
+    let mut all = 0u64;
+    for k in 0..n {
+        all = all | raised(s[start + k], most);
+    }
+    all
 }

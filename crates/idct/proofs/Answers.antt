@@ -19,10 +19,11 @@ use Rattle.answers.specs.Bad.{badLossless, badKind, anyBeyond}
 use Rattle.answers.specs.Limits.{COEF_LIMIT}
 use Rattle.answers.proofs.Numbers.{number-injective}
 use Rattle.answers.proofs.Passed.{none-within}
+use Rattle.dct.proofs.Dct.{two-to-five}
 use Rattle.blocks.specs.Block.{live, FirstWithin}
 use Rattle.blocks.specs.Inverse.{inverse2d, dcOnly, Possible}
 use Rattle.blocks.proofs.Inverse.{dc-only, filled}
-use Rattle.idct.specs.Driver.{Input, area, badSide, badRoom, shapeOf, answerOf, blockAfter, Driven, Checked, onlyDc}
+use Rattle.idct.specs.Driver.{Input, area, badSide, badRoom, shapeOf, answerOf, blockAfter, Driven, Tried, onlyDc}
 use Rattle.idct.proofs.Beyond.{first-beyond}
 
 never : {A : Type 0} → true ≡ false → A
@@ -90,10 +91,10 @@ pub any-type : (n type : ℕ) (s : List ℤ) → inverse2d n 0 true s ≡ invers
 unfolding inverse2d
 any-type n type s = refl
 
-pub any-checked : (n type : ℕ) (s : List ℤ) {a : Answer} {after : List ℤ} → Checked (record { block = s; n = n; type = 0; lossless = true }) a after
-    → Checked (record { block = s; n = n; type = type; lossless = true }) a after
+pub any-tried : (n type : ℕ) (s : List ℤ) {made : Bool} {after : List ℤ} → Tried (record { block = s; n = n; type = 0; lossless = true }) made after
+    → Tried (record { block = s; n = n; type = type; lossless = true }) made after
 unfolding inverse2d
-any-checked n type s h = record { answered = h .answered; written = h .written }
+any-tried n type s h = record { under = h .under; written = h .written; left = h .left }
 
 -- ---- the answer from its two parts
 shape : Input → ℕ
@@ -123,7 +124,11 @@ refused u a e h =
     let g : answerOf u ≡ shape u = answer-is u ∙ rw f in
     record { answered = e ∙ sym g; written = rw (g, f) }
 
--- past them: by what is beyond
+-- past them: by what is beyond, 0 or 9
+pub record Checked (u : Input) (answer : Answer) (after : List ℤ) : Type 0 where
+  pub answered : number answer ≡ cond (anyBeyond COEF_LIMIT (area (u .n)) (u .block)) 9 0
+  pub written : after ≡ cond (anyBeyond COEF_LIMIT (area (u .n)) (u .block)) (u .block) (inverse2d (u .n) (u .type) (u .lossless) (u .block))
+
 by-beyond : (b : Bool) (l m : List ℤ) → cond b l m ≡ cond (eqb (cond b 9 0) 0) m l
 by-beyond true l m = refl
 by-beyond false l m = refl
@@ -142,35 +147,66 @@ over u h = record { answered = rw h; written = rw h }
 pub under : (u : Input) (after : List ℤ) → anyBeyond COEF_LIMIT (area (u .n)) (u .block) ≡ false → after ≡ inverse2d (u .n) (u .type) (u .lossless) (u .block) → Checked u Done after
 under u after h e = record { answered = rw h; written = rw h e }
 
+-- ---- the fast engine: the residual made, or the block left
+pub made : (u : Input) (after : List ℤ) → anyBeyond COEF_LIMIT (area (u .n)) (u .block) ≡ false → after ≡ inverse2d (u .n) (u .type) (u .lossless) (u .block) → Tried u true after
+made u after h e = record { under = λ _. h; written = λ _. e; left = λ q. never q }
+
+pub left : (u : Input) → Tried u false (u .block)
+left u = record { under = λ q. never (sym q); written = λ q. never (sym q); left = λ _. refl }
+
+-- made, it is what the drivers promise; left, the block is as it was for the reference
+pub driven-made : (u : Input) {b : Bool} {after : List ℤ} → shapeOf (length (u .block)) (u .n) (u .type) (u .lossless) ≡ 0 → b ≡ true → Tried u b after → Driven u Done after
+driven-made u {b} {after} e q t = driven u Done after e (under u after (t .under q) (t .written q))
+
+pub driven-left : (u : Input) {b : Bool} {s after : List ℤ} {a : Answer} → b ≡ false → Tried u b s
+    → Driven (record { block = s; n = u .n; type = u .type; lossless = u .lossless }) a after → Driven u a after
+driven-left u q t d = rw (t .left q) at d
+
+-- sizes above 4 by 4 are not lossless
+module _ (s : List ℤ) (n type : ℕ) (lossless : Bool) (e : shapeOf (length s) n type lossless ≡ 0) (h : n ≡ 2 → ⊥) where
+  lossy-is : lossless ≡ false
+  lossy-is = go lossless refl
+    where
+      go : (b : Bool) → lossless ≡ b → lossless ≡ false
+      go true q = absurd (h (possible (length s) n type lossless e .0 .small q))
+      go false q = q
+
+  pub large-fine : Possible n type false × (area n ≤ length s)
+  large-fine = rw lossy-is at (possible (length s) n type lossless e)
+
+  pub as-lossy : {b : Bool} {after : List ℤ} → Tried (record { block = s; n = n; type = type; lossless = false }) b after
+      → Tried (record { block = s; n = n; type = type; lossless = lossless }) b after
+  as-lossy t = rw lossy-is t
+
 -- a block within the limit is within what the transforms take
 pub in-range : (n : ℕ) (l : List ℤ) → anyBeyond COEF_LIMIT n l ≡ false → FirstWithin (2 ^ 31) n l
 in-range n l h = record { each = λ k q. within-le (omega arith) (none-within COEF_LIMIT n l h k q) }
 
 -- ---- the DC-only case
-pub record Alone (n type : ℕ) (lossless : Bool) (block : List ℤ) : Type 0 where
-  pub lossy : lossless ≡ false
+pub record Alone (n type : ℕ) (block : List ℤ) : Type 0 where
   pub zero-type : type ≡ 0
   pub dead : live 1 (area n - 1) block ≡ false
 
-pub alone : (n type : ℕ) (lossless : Bool) (block : List ℤ) → onlyDc (area n) type lossless block ≡ true → Alone n type lossless block
+pub alone : (n type : ℕ) (block : List ℤ) → onlyDc (area n) type block ≡ true → Alone n type block
 unfolding onlyDc
-alone n type lossless block h = go lossless (eqb type 0) (live 1 (area n - 1) block) refl refl refl
+alone n type block h = go (eqb type 0) (live 1 (area n - 1) block) refl refl
   where
-    go : (a b c : Bool) → lossless ≡ a → eqb type 0 ≡ b → live 1 (area n - 1) block ≡ c → Alone n type lossless block
-    go true b c p q r = never (sym (rw (p) at h))
-    go false false c p q r = never (sym (rw (p, q) at h))
-    go false true true p q r = never (sym (rw (p, q, r) at h))
-    go false true false p q r = record { lossy = p; zero-type = eqb-true type 0 q; dead = r }
+    go : (b c : Bool) → eqb type 0 ≡ b → live 1 (area n - 1) block ≡ c → Alone n type block
+    go false c q r = never (sym (rw q at h))
+    go true true q r = never (sym (rw (q, r) at h))
+    go true false q r = record { zero-type = eqb-true type 0 q; dead = r }
 
 pub area-some : (n : ℕ) → 1 ≤ area n
 area-some n = mul-le-mul (pow-pos n) (pow-pos n)
 
-module _ (n type : ℕ) (lossless : Bool) (block : List ℤ) (l : 2 ≤ n) (h : n ≤ 5) (room : area n ≤ length block) (dc : onlyDc (area n) type lossless block ≡ true) where
-  pub dc-beyond : anyBeyond COEF_LIMIT (area n) block ≡ ltb COEF_LIMIT (natAbs (getD block 0 (pos 0)))
-  dc-beyond = first-beyond COEF_LIMIT (area n) block (area-some n) (alone n type lossless block dc .dead)
+pub area-more : (n : ℕ) → 2 ≤ n → n ≤ 5 → 2 ≤ area n
+area-more n l h = two-to-five (λ n. 2 ≤ area n) (omega arith) (omega arith) (omega arith) (omega arith) n l h
 
-  pub dc-written : {after : List ℤ} → after ≡ fill (area n) (λ k. dcOnly n (getD block 0 (pos 0))) block → after ≡ inverse2d n type lossless block
-  dc-written e =
-      let a = alone n type lossless block dc in
-      e ∙ filled (2 ^ n) (dcOnly n (getD block 0 (pos 0))) block room ∙ sym (dc-only n l h block room (a .dead))
-      ∙ rw (a .lossy, a .zero-type)
+module _ (n : ℕ) (block : List ℤ) (l : 2 ≤ n) (h : n ≤ 5) (room : area n ≤ length block) (dead : live 1 (area n - 1) block ≡ false) where
+  pub dc-beyond : anyBeyond COEF_LIMIT (area n) block ≡ ltb COEF_LIMIT (natAbs (getD block 0 (pos 0)))
+  dc-beyond = first-beyond COEF_LIMIT (area n) block (area-some n) dead
+
+  pub dc-written : {type : ℕ} {after : List ℤ} → type ≡ 0 → after ≡ fill (area n) (λ k. dcOnly n (getD block 0 (pos 0))) block → after ≡ inverse2d n type false block
+  dc-written q e =
+      e ∙ filled (2 ^ n) (dcOnly n (getD block 0 (pos 0))) block room ∙ sym (dc-only n l h block room dead)
+      ∙ ap (λ (type : ℕ). inverse2d n type false block) (sym q)

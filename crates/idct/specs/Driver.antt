@@ -1,6 +1,6 @@
 -- The promise of the two-dimensional drivers: their answer, and the block afterwards.
 use mathlib.Core.Path.{_≡_}
-use mathlib.Core.Bool.{Bool, cond, not, _&&_, _||_}
+use mathlib.Core.Bool.{Bool, true, false, cond, not, _&&_, _||_}
 use mathlib.Core.List.{List, [], _∷_}
 use Prim.Native.Nat.{ℕ, _-_, _*_, _^_}
 use lib.Dec.{ltb, eqb}
@@ -59,11 +59,12 @@ pub record Driven (u : Input) (answer : Answer) (after : List ℤ) : Type 0 wher
   pub answered : number answer ≡ answerOf u
   pub written : after ≡ blockAfter u
 
--- the same of a block of a size and type that there are, and with room: 0 or 9
-pub record Checked (u : Input) (answer : Answer) (after : List ℤ) : Type 0 where
-  pub answered : number answer ≡ cond (anyBeyond COEF_LIMIT (area (u .n)) (u .block)) 9 0
-  pub written : after ≡ cond (anyBeyond COEF_LIMIT (area (u .n)) (u .block)) (u .block) (inverse2d (u .n) (u .type) (u .lossless) (u .block))
+-- what the fast engine comes to on a block of a size and type that there are, and with room: the residual, or nothing done
+pub record Tried (u : Input) (made : Bool) (after : List ℤ) : Type 0 where
+  pub under : made ≡ true → anyBeyond COEF_LIMIT (area (u .n)) (u .block) ≡ false
+  pub written : made ≡ true → after ≡ inverse2d (u .n) (u .type) (u .lossless) (u .block)
+  pub left : made ≡ false → after ≡ u .block
 
 -- the type is 0, and of `count` numbers only the first is live
-unfoldable pub onlyDc : ℕ → ℕ → Bool → List ℤ → Bool
-onlyDc count type lossless block = not lossless && (eqb type 0 && not (live 1 (count - 1) block))
+unfoldable pub onlyDc : ℕ → ℕ → List ℤ → Bool
+onlyDc count type block = eqb type 0 && not (live 1 (count - 1) block)

@@ -1,4 +1,3 @@
-use answers::Answer;
 ghost use mathlib.Core.Path.{_≡_};
 ghost use mathlib.Core.Bool.{Bool, true, false};
 ghost use Prim.Native.Nat.{ℕ, _*_, _^_, _≤_};
@@ -12,7 +11,7 @@ ghost use Rattle.answers.specs.Bad.{anyBeyond};
 ghost use Rattle.answers.specs.Limits.{COEF_LIMIT};
 ghost use Rattle.blocks.specs.Block.{rows, columns, rowsThenColumns, live, FirstWithin};
 ghost use Rattle.blocks.specs.Inverse.{Pass, Dct, Adst, Wht, apply, lossy, rowPass, columnPass, bits, rounding, inverse2d, dcOnly, Possible, Safe};
-ghost use Rattle.idct.specs.Driver.{onlyDc, Checked};
+ghost use Rattle.idct.specs.Driver.{onlyDc, Tried};
 
 // Sizes apart: their numbers are literals, so that the loops unroll.
 
@@ -70,7 +69,7 @@ fn rows3(block: &mut [i64], use_dct: bool)
 {
     let mut t = [0i64; 32];
     for i in 0..8usize {
-        if blocks::any_live(block, i * 8, 8) {
+        if blocks::any_live_first(block, i * 8, 8) {
             blocks::load(&mut t, block, i * 8, 1, 8);
             line3(&mut t, use_dct);
             blocks::store(block, &t, i * 8, 1, 8);
@@ -84,7 +83,7 @@ fn rows4(block: &mut [i64], use_dct: bool)
 {
     let mut t = [0i64; 32];
     for i in 0..16usize {
-        if blocks::any_live(block, i * 16, 16) {
+        if blocks::any_live_first(block, i * 16, 16) {
             blocks::load(&mut t, block, i * 16, 1, 16);
             line4(&mut t, use_dct);
             blocks::store(block, &t, i * 16, 1, 16);
@@ -98,7 +97,7 @@ fn rows5(block: &mut [i64])
 {
     let mut t = [0i64; 32];
     for i in 0..32usize {
-        if blocks::any_live(block, i * 32, 32) {
+        if blocks::any_live_first(block, i * 32, 32) {
             blocks::load(&mut t, block, i * 32, 1, 32);
             flat::idct_fast5(&mut t);
             blocks::store(block, &t, i * 32, 1, 32);
@@ -154,18 +153,28 @@ fn columns5(block: &mut [i64])
     }
 }
 
+// No row is passed over: all four are quicker than the tests between them.
 fn wht_rows(block: &mut [i64])
     requires { ⌜ (16 ≤ length (now block)) × FirstWithin (2 ^ 31) 16 (now block) ⌝ }
     ensures { λ _. ⌜ now (block .exit) ≡ rows (apply (Wht 2) 2) 4 (now (block .entry)) ⌝ }
 {
     let mut t = [0i64; 32];
     for i in 0..4usize {
-        if blocks::any_live(block, i * 4, 4) {
-            blocks::load(&mut t, block, i * 4, 1, 4);
-            wht::inverse_wht(&mut t, 2);
-            blocks::store(block, &t, i * 4, 1, 4);
-        }
+        blocks::load(&mut t, block, i * 4, 1, 4);
+        wht::inverse_wht(&mut t, 2);
+        blocks::store(block, &t, i * 4, 1, 4);
     }
+}
+
+// All rows, where those below the first are zeros.
+fn wht_first_row(block: &mut [i64])
+    requires { ⌜ (16 ≤ length (now block)) × FirstWithin (2 ^ 31) 16 (now block) × (live 4 12 (now block) ≡ false) ⌝ }
+    ensures { λ _. ⌜ now (block .exit) ≡ rows (apply (Wht 2) 2) 4 (now (block .entry)) ⌝ }
+{
+    let mut t = [0i64; 32];
+    blocks::load(&mut t, block, 0, 1, 4);
+    wht::inverse_wht(&mut t, 2);
+    blocks::store(block, &t, 0, 1, 4);
 }
 
 fn wht_columns(block: &mut [i64])
@@ -181,7 +190,7 @@ fn wht_columns(block: &mut [i64])
 }
 
 // Rows, then columns.
-fn wht_passes(block: &mut [i64])
+pub fn wht_passes(block: &mut [i64])
     requires { ⌜ (16 ≤ length (now block)) × FirstWithin (2 ^ 31) 16 (now block) ⌝ }
     ensures { λ _. ⌜ now (block .exit) ≡ inverse2d 2 0 true (now (block .entry)) ⌝ }
 {
@@ -245,33 +254,23 @@ fn is_beyond(x: i64) -> bool
     answers::COEF_LIMIT < answers::magnitude(x)
 }
 
-// Whether some of the first `count` numbers is beyond the limit. No magnitude is above all of them or-ed together, and that is quick.
-fn some_beyond(block: &[i64], count: usize) -> bool
+// None of the first `count` numbers is beyond the limit, nor is one the limit itself: quick, and enough for almost every block.
+fn near(block: &[i64], count: usize) -> bool
     requires { ⌜ count ≤ length (now block) ⌝ }
-    ensures { λ r. ⌜ r ≡ anyBeyond COEF_LIMIT count (now (block .entry)) ⌝ }
+    ensures { λ r. ⌜ (r ≡ true → anyBeyond COEF_LIMIT count (now (block .entry)) ≡ false) ⌝ }
 {
-    let mut all = 0u64;
-    for i in 0..count {
-        all = all | answers::magnitude(block[i]);
-    }
-    if all <= answers::COEF_LIMIT {
-        return false;
-    }
-    answers::any_beyond(block, count, answers::COEF_LIMIT)
+    blocks::all_raised(block, 0, count, answers::COEF_LIMIT) < 2 * answers::COEF_LIMIT
 }
 
 // Whether the type is 0 and only place 0 of the `count` numbers is live.
-fn only_dc(block: &[i64], count: usize, tx_type: u8, lossless: bool) -> bool
-    requires { ⌜ (1 ≤ count) × (count ≤ length (now block)) ⌝ }
-    ensures { λ r. ⌜ r ≡ onlyDc count «tx_type» lossless (now (block .entry)) ⌝ }
+fn only_dc(block: &[i64], count: usize, tx_type: u8) -> bool
+    requires { ⌜ (2 ≤ count) × (count ≤ length (now block)) ⌝ }
+    ensures { λ r. ⌜ r ≡ onlyDc count «tx_type» (now (block .entry)) ⌝ }
 {
-    if lossless {
-        return false;
-    }
     if tx_type != 0 {
         return false;
     }
-    !blocks::any_live(block, 1, count - 1)
+    !blocks::any_live_first(block, 1, count - 1)
 }
 
 // The one number that place 0 gives everywhere; 11585 is cos64(16).
@@ -302,116 +301,82 @@ fn dc_fill(block: &mut [i64], n: u32, count: usize)
     fill_first(block, count, v);
 }
 
-// The residual of a block whose size, type and numbers are known to be in range.
-pub fn inverse_fast(block: &mut [i64], n: u32, tx_type: u8, lossless: bool)
-    requires { ⌜ Possible n «tx_type» lossless × (2 ^ n * 2 ^ n ≤ length (now block)) × FirstWithin (2 ^ 31) (2 ^ n * 2 ^ n) (now block) ⌝ }
-    ensures { λ _. ⌜ now (block .exit) ≡ inverse2d n «tx_type» lossless (now (block .entry)) ⌝ }
+// The residual of a 4 by 4 block whose numbers are known to be in range, not lossless.
+pub fn inverse4(block: &mut [i64], tx_type: u8)
+    requires { ⌜ (16 ≤ length (now block)) × FirstWithin (2 ^ 31) 16 (now block) ⌝ }
+    ensures { λ _. ⌜ now (block .exit) ≡ inverse2d 2 «tx_type» false (now (block .entry)) ⌝ }
 {
-    let n0 = crate::side(n);
-    if only_dc(block, n0 * n0, tx_type, lossless) {
-        dc_fill(block, n, n0 * n0);
-    } else {
-        both_passes(block, n, tx_type, lossless);
-    }
-}
-
-// With the limit checked first, on what is live: place 0 alone, or the block.
-
-fn wht_checked(block: &mut [i64]) -> Answer
-    requires { ⌜ 16 ≤ length (now block) ⌝ }
-    ensures { λ r. ⌜ Checked (record { block = now (block .entry); n = 2; type = 0; lossless = true }) r (now (block .exit)) ⌝ }
-{
-    if some_beyond(block, 16) {
-        return Answer::Coefficient;
-    }
-    wht_passes(block);
-    Answer::Done
-}
-
-fn checked2(block: &mut [i64], tx_type: u8) -> Answer
-    requires { ⌜ 16 ≤ length (now block) ⌝ }
-    ensures { λ r. ⌜ Checked (record { block = now (block .entry); n = 2; type = «tx_type»; lossless = false }) r (now (block .exit)) ⌝ }
-{
-    if only_dc(block, 16, tx_type, false) {
-        if is_beyond(block[0]) {
-            return Answer::Coefficient;
+    if tx_type == 0 {
+        if !blocks::any_live_first(block, 1, 15) {
+            dc_fill(block, 2, 16);
+            return;
         }
-        dc_fill(block, 2, 16);
-        return Answer::Done;
-    }
-    if some_beyond(block, 16) {
-        return Answer::Coefficient;
     }
     passes2(block, tx_type);
-    Answer::Done
 }
 
-fn checked3(block: &mut [i64], tx_type: u8) -> Answer
-    requires { ⌜ 64 ≤ length (now block) ⌝ }
-    ensures { λ r. ⌜ Checked (record { block = now (block .entry); n = 3; type = «tx_type»; lossless = false }) r (now (block .exit)) ⌝ }
+// Each of the following makes the residual and says true, or leaves the block and says false: a number is at the limit or beyond it.
+
+fn wht_tried(block: &mut [i64]) -> bool
+    requires { ⌜ 16 ≤ length (now block) ⌝ }
+    ensures { λ r. ⌜ Tried (record { block = now (block .entry); n = 2; type = 0; lossless = true }) r (now (block .exit)) ⌝ }
 {
-    if only_dc(block, 64, tx_type, false) {
-        if is_beyond(block[0]) {
-            return Answer::Coefficient;
+    let first = blocks::all_raised(block, 0, 4, answers::COEF_LIMIT);
+    let rest = blocks::all_raised(block, 4, 12, answers::COEF_LIMIT);
+    if 2 * answers::COEF_LIMIT <= (first | rest) {
+        return false;
+    }
+    // As zeros leave it; asked before the zeros, because it is at hand.
+    if rest == answers::COEF_LIMIT {
+        if !blocks::any_live(block, 4, 12) {
+            wht_first_row(block);
+            wht_columns(block);
+            return true;
         }
-        dc_fill(block, 3, 64);
-        return Answer::Done;
     }
-    if some_beyond(block, 64) {
-        return Answer::Coefficient;
-    }
-    passes3(block, tx_type);
-    Answer::Done
+    wht_rows(block);
+    wht_columns(block);
+    true
 }
 
-fn checked4(block: &mut [i64], tx_type: u8) -> Answer
-    requires { ⌜ 256 ≤ length (now block) ⌝ }
-    ensures { λ r. ⌜ Checked (record { block = now (block .entry); n = 4; type = «tx_type»; lossless = false }) r (now (block .exit)) ⌝ }
+fn tried2(block: &mut [i64], tx_type: u8) -> bool
+    requires { ⌜ 16 ≤ length (now block) ⌝ }
+    ensures { λ r. ⌜ Tried (record { block = now (block .entry); n = 2; type = «tx_type»; lossless = false }) r (now (block .exit)) ⌝ }
 {
-    if only_dc(block, 256, tx_type, false) {
-        if is_beyond(block[0]) {
-            return Answer::Coefficient;
-        }
-        dc_fill(block, 4, 256);
-        return Answer::Done;
+    if !near(block, 16) {
+        return false;
     }
-    if some_beyond(block, 256) {
-        return Answer::Coefficient;
-    }
-    passes4(block, tx_type);
-    Answer::Done
+    inverse4(block, tx_type);
+    true
 }
 
-fn checked5(block: &mut [i64]) -> Answer
-    requires { ⌜ 1024 ≤ length (now block) ⌝ }
-    ensures { λ r. ⌜ Checked (record { block = now (block .entry); n = 5; type = 0; lossless = false }) r (now (block .exit)) ⌝ }
-{
-    if only_dc(block, 1024, 0, false) {
-        if is_beyond(block[0]) {
-            return Answer::Coefficient;
-        }
-        dc_fill(block, 5, 1024);
-        return Answer::Done;
-    }
-    if some_beyond(block, 1024) {
-        return Answer::Coefficient;
-    }
-    passes5(block);
-    Answer::Done
-}
-
-// The residual, or answer 9, of a block whose size and type there are.
-pub fn checked(block: &mut [i64], n: u32, tx_type: u8, lossless: bool) -> Answer
-    requires { ⌜ Possible n «tx_type» lossless × (2 ^ n * 2 ^ n ≤ length (now block)) ⌝ }
-    ensures { λ r. ⌜ Checked (record { block = now (block .entry); n = n; type = «tx_type»; lossless = lossless }) r (now (block .exit)) ⌝ }
+// 4 by 4.
+pub fn tried_small(block: &mut [i64], tx_type: u8, lossless: bool) -> bool
+    requires { ⌜ 16 ≤ length (now block) ⌝ }
+    ensures { λ r. ⌜ Tried (record { block = now (block .entry); n = 2; type = «tx_type»; lossless = lossless }) r (now (block .exit)) ⌝ }
 {
     if lossless {
-        return wht_checked(block);
+        return wht_tried(block);
     }
-    match n {
-        2 => checked2(block, tx_type),
-        3 => checked3(block, tx_type),
-        4 => checked4(block, tx_type),
-        _ => checked5(block),
+    tried2(block, tx_type)
+}
+
+// The larger sizes.
+pub fn tried_large(block: &mut [i64], n: u32, tx_type: u8) -> bool
+    requires { ⌜ Possible n «tx_type» false × (2 ^ n * 2 ^ n ≤ length (now block)) ⌝ }
+    ensures { λ r. ⌜ Tried (record { block = now (block .entry); n = n; type = «tx_type»; lossless = false }) r (now (block .exit)) ⌝ }
+{
+    let n0 = crate::side(n);
+    if only_dc(block, n0 * n0, tx_type) {
+        if is_beyond(block[0]) {
+            return false;
+        }
+        dc_fill(block, n, n0 * n0);
+        return true;
     }
+    if !near(block, n0 * n0) {
+        return false;
+    }
+    both_passes(block, n, tx_type, false);
+    true
 }

@@ -109,13 +109,33 @@ pub fn inverse_transform_2d_reference(
     Answer::Done
 }
 
-// The residual of the block, in its place, by the fast engine.
+// The fast engine, 4 by 4: with 2 for n the tests fold.
+fn small(block: &mut [i64], tx_type: u8, lossless: bool) -> Answer
+    ensures { λ r. ⌜ Driven (record { block = now (block .entry); n = 2; type = «tx_type»; lossless = lossless }) r (now (block .exit)) ⌝ }
+{
+    let answer = shape(block.len(), 2, tx_type, lossless);
+    if answers::code(answer) != 0 {
+        return answer;
+    }
+    if fast::tried_small(block, tx_type, lossless) {
+        return Answer::Done;
+    }
+    inverse_transform_2d_reference(block, 2, tx_type, lossless)
+}
+
+// The residual of the block, in its place, by the fast engine. A block at the limit or beyond it goes to the reference, whose test is exact.
 pub fn inverse_transform_2d(block: &mut [i64], n: u32, tx_type: u8, lossless: bool) -> Answer
     ensures { λ r. ⌜ Driven (record { block = now (block .entry); n = n; type = «tx_type»; lossless = lossless }) r (now (block .exit)) ⌝ }
 {
+    if n == 2 {
+        return small(block, tx_type, lossless);
+    }
     let answer = shape(block.len(), n, tx_type, lossless);
     if answers::code(answer) != 0 {
         return answer;
     }
-    fast::checked(block, n, tx_type, lossless)
+    if fast::tried_large(block, n, tx_type) {
+        return Answer::Done;
+    }
+    inverse_transform_2d_reference(block, n, tx_type, lossless)
 }

@@ -28,7 +28,7 @@ loop-again c =
     let s = c .before .before .before in
     ⊎-elim
     (λ w. rw (w .10, w .11) (turn-next (job (s .before .before)) (s .before .loop .inv) (s .loop-test .taken) (w .3 .ensures) (w .5 .ensures) (w .8 .ensures)))
-    (λ w. rw (w .1, w .2) (turn-skip (job (s .before .before)) (s .before .loop .inv) (s .loop-test .taken) (sym (c .before .any-live .ensures) ∙ w .0 .left)))
+    (λ w. rw (w .1, w .2) (turn-skip (job (s .before .before)) (s .before .loop .inv) (s .loop-test .taken) (sym (c .before .any-live-first .ensures) ∙ w .0 .left)))
     (c .if1 .came)
 
 returns : tie.Need-returns Inv-loop μ-loop
@@ -42,7 +42,7 @@ rows3-spec =
     μ-loop
     (λ c. turn-none _ 3 8 _ _ _ _)
     (λ c. search needs)
-    (λ c κs. omega arith)
+    (λ c κs. (omega arith, omega arith))
     (λ c. search needs)
     (λ c κs. (omega arith, λ k h. omega arith))
     line3-requires

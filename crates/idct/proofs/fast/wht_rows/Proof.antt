@@ -1,11 +1,10 @@
-use mathlib.Core.Path.{refl, sym, _∙_}
-use mathlib.Core.Logic.{⊎-elim}
+use mathlib.Core.Path.{refl}
 use Prim.Native.Nat.{_*_, _-_}
 use native.Mathlib.Omega.{arith}
 use borrow.Author.Needs.{needs}
 use Rattle.blocks.specs.Block.{rows}
 use Rattle.blocks.specs.Inverse.{Wht, apply, Safe}
-use Rattle.blocks.proofs.Turns.{Job, rows-job, Turn, turn-none, turn-safe, turn-next, turn-skip, turn-done}
+use Rattle.blocks.proofs.Turns.{Job, rows-job, Turn, turn-none, turn-safe, turn-next, turn-done}
 use Rattle.idct.proofs.fast.wht_rows.Statement.{statement}
 use Rattle.idct.proofs.fast.wht_rows.Tie as tie
 
@@ -21,16 +20,13 @@ job c = rows-job _ 2 _ (omega arith) (omega arith) (refl, refl) (c .pre .0) (c .
 
 inverse-wht-requires : tie.Need-inverse-wht-requires Inv-loop μ-loop
 unfolding Safe
-inverse-wht-requires c κs = let s = c .before .before .before .before .before .before .before in (omega arith, turn-safe (job (s .before .before)) (s .before .loop .inv) (s .loop-test .taken) (c .before .load .ensures))
+inverse-wht-requires c κs = let s = c .before .before .before .before in (omega arith, turn-safe (job (s .before .before)) (s .before .loop .inv) (s .loop-test .taken) (c .before .load .ensures))
 
 loop-again : tie.Need-loop-again Inv-loop μ-loop
 unfolding apply
 loop-again c =
-    let s = c .before .before .before in
-    ⊎-elim
-    (λ w. rw (w .10, w .11) (turn-next (job (s .before .before)) (s .before .loop .inv) (s .loop-test .taken) (w .3 .ensures) (w .5 .ensures) (w .8 .ensures)))
-    (λ w. rw (w .1, w .2) (turn-skip (job (s .before .before)) (s .before .loop .inv) (s .loop-test .taken) (sym (c .before .any-live .ensures) ∙ w .0 .left)))
-    (c .if1 .came)
+    let s = c .before .before .before .before .before .before .before .before .before in
+    turn-next (job (s .before .before)) (s .before .loop .inv) (s .loop-test .taken) (c .before .before .before .before .before .before .load .ensures) (c .before .before .before .before .inverse-wht .ensures) (c .before .store .ensures)
 
 returns : tie.Need-returns Inv-loop μ-loop
 returns c = turn-done (job (c .before .before)) (c .before .loop .inv) (c .loop-test .left)
@@ -42,8 +38,6 @@ wht-rows-spec =
     Inv-loop
     μ-loop
     (λ c. turn-none _ 2 4 _ _ _ _)
-    (λ c. search needs)
-    (λ c κs. omega arith)
     (λ c. search needs)
     (λ c κs. (omega arith, λ k h. omega arith))
     inverse-wht-requires

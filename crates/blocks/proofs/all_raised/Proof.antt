@@ -1,0 +1,73 @@
+use mathlib.Core.Path.{_≡_}
+use Prim.Native.Nat.{ℕ, _+_, _-_, _≤_, _<_}
+use native.Mathlib.Omega.{arith}
+use borrow.Author.Needs.{needs}
+use lib.IntN.{pos, natAbs}
+use lib.ListN.{getD}
+use mir.Syntax.{w64}
+use mir.Facts.{toZ-ofZ}
+use Rattle.blocks.proofs.Near.{raised-more}
+use Rattle.blocks.proofs.all_raised.Statement.{statement}
+use Rattle.blocks.proofs.all_raised.Tie as tie
+
+abbrev Inv-loop : tie.InvT-loop
+Inv-loop s start n most all₀ k₀ all k = (k ≤ n) × (all < most + most → (j : ℕ) → j < k → natAbs (getD s (start + j) (pos 0)) ≤ most)
+
+abbrev μ-loop : tie.MeasureT-loop
+μ-loop s start n most all₀ k₀ all k = n - k
+
+-- src/lib.rt:85:5
+loop-holds : tie.Need-loop-holds Inv-loop μ-loop
+loop-holds c = (omega arith, λ h j l. absurd (omega arith))
+
+-- src/lib.rt:86:30
+add-raised : tie.Need-add-raised Inv-loop μ-loop
+add-raised c = search needs
+
+-- src/lib.rt:86:28
+mul-raised : tie.Need-mul-raised Inv-loop μ-loop
+mul-raised c = search needs
+
+-- src/lib.rt:86:28
+shared-slice-copy-out-raised : tie.Need-shared-slice-copy-out-raised Inv-loop μ-loop
+shared-slice-copy-out-raised c = search needs
+
+-- src/lib.rt:86:21
+raised-requires : tie.Need-raised-requires Inv-loop μ-loop
+raised-requires c κs = search needs
+
+-- src/lib.rt:85:9
+add-k : tie.Need-add-k Inv-loop μ-loop
+add-k c = search needs
+
+-- src/lib.rt:85:5
+loop-less : tie.Need-loop-less Inv-loop μ-loop
+loop-less c = search needs
+
+-- src/lib.rt:85:5
+loop-again : tie.Need-loop-again Inv-loop μ-loop
+loop-again c =
+    let l = c .before .before .before in
+    let a = l .before .args in
+    let e = toZ-ofZ {w = w64} {z = getD (a .s .now) (a .start + l .loop .k) (pos 0)} (record { sfits = c .before .raised-arg .given }) in
+    (omega arith, raised-more (a .s .now) (a .start) (a .most) (l .loop .k) (l .loop .all) (c .raised .result) (rw e at (c .raised .ensures)) (l .loop .inv .1))
+
+-- src/lib.rt:80:1
+returns : tie.Need-returns Inv-loop μ-loop
+returns c h k l = c .before .loop .inv .1 h k (omega arith)
+
+pub all-raised-spec : {M : Type 1} → statement M
+all-raised-spec =
+    tie.close
+    (tie.spec
+    Inv-loop
+    μ-loop
+    loop-holds
+    add-raised
+    mul-raised
+    shared-slice-copy-out-raised
+    raised-requires
+    add-k
+    loop-less
+    loop-again
+    returns)

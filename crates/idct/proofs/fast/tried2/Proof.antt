@@ -1,0 +1,28 @@
+use mathlib.Core.Path.{_≡_, sym, _∙_}
+use mathlib.Core.Bool.{false}
+use borrow.Author.Needs.{needs}
+use borrow.Author.Tests.{not-false}
+use Rattle.answers.specs.Bad.{anyBeyond}
+use Rattle.answers.specs.Limits.{COEF_LIMIT}
+use Rattle.idct.specs.Driver.{Input}
+use Rattle.idct.proofs.Answers.{made, left, in-range}
+use Rattle.idct.proofs.fast.tried2.Statement.{statement}
+use Rattle.idct.proofs.fast.tried2.Tie as tie
+
+-- what the call is given
+abbrev given : tie.Start → Input
+given s = record { block = s .args .block .now; n = 2; type = s .args .tx-type; lossless = false }
+
+within : (c : tie.Else1) → anyBeyond COEF_LIMIT 16 (c .before .before .before .args .block .now) ≡ false
+within c = c .before .near .ensures (not-false _ (c .if1 .left))
+
+inverse4-requires : tie.Need-inverse4-requires
+inverse4-requires c κs = let s = c .before .before .before .before in (s .pre, in-range 16 (s .args .block .now) (within (c .before)))
+
+returns-2 : tie.Need-returns-2
+returns-2 c = let e = c .before .before .before in made (given (e .before .before .before)) _ (within e) (c .before .inverse4 .ensures)
+
+pub tried2-spec : {M : Type 1} → statement M
+tried2-spec =
+    tie.close
+    (tie.spec (λ c κs. search needs) (λ c. search needs) (λ c. left (given (c .before .before .before))) inverse4-requires (λ c. search needs) returns-2)
