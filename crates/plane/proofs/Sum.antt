@@ -1,19 +1,17 @@
 -- The sum of a sample and a residual as the machine has it, and what the two tests make of it.
 use mathlib.Core.Path.{_≡_, refl, sym, ap, _∙_}
 use mathlib.Core.Bool.{true, false}
-use Prim.Native.Nat.{ℕ, _<_, _≤_, _^_}
+use Prim.Native.Nat.{ℕ, min, _<_, _≤_, _^_}
 use native.Mathlib.Omega.{arith}
-use lib.Dec.{T}
-use lib.IntN.{ℤ, pos, natAbs, _+ℤ_}
-use lib.Signed.{ltZ, nonNeg}
+use lib.IntN.{ℤ, pos, negsuc, _+ℤ_}
+use lib.Signed.{ltZ}
 use mir.Syntax.{w16, w64}
 use mir.Val.{SFits, Fits, toZ}
-use Rattle.whole.specs.Parts.{P, N}
+use Rattle.whole.specs.Parts.{P}
 use Rattle.whole.proofs.Signed.{rd, C, loc, _⊕_, fits, value}
 use Rattle.whole.specs.Within.{Within}
-use Rattle.whole.proofs.Parts.{apart, abs-parts, ltZ-true, ltZ-false, nonNeg-parts}
+use Rattle.whole.proofs.Parts.{apart, ltZ-true, ltZ-false}
 use Rattle.whole.proofs.Within.{within-abs, back}
-use Rattle.plane.specs.Plane.{clip}
 
 -- a sample as a signed number
 pub sample-is : (s : ℕ) → s < 2 ^ 16 → toZ w64 s ≡ pos s
@@ -31,17 +29,21 @@ module _ (s : ℕ) (r : ℤ) (hs : s < 2 ^ 16) (hr : Within (2 ^ 62) r) where
   unfolding sum
   sum-is = value w64 sum tt
 
-module _ (top : ℕ) (z : ℤ) where
-  pub below : ltZ z (pos 0) ≡ true → 0 ≡ clip top z
-  below h = omega (arith, apart z, ltZ-true z (pos 0) h)
+-- the positive part of a number that is not negative, and of one that is
+pub none-below : (z : ℤ) → ltZ z (pos 0) ≡ true → pos 0 ≡ pos (P z)
+none-below z h = let e : 0 ≡ P z = omega (arith, apart z, ltZ-true z (pos 0) h) in ap pos e
 
-  pub above : ltZ (pos top) z ≡ true → top ≡ clip top z
-  above h = omega (arith, ltZ-true (pos top) z h)
+pub not-below : (z : ℤ) → ltZ z (pos 0) ≡ false → z ≡ pos (P z)
+not-below (pos n) h = refl
+not-below (negsuc n) h = absurd (omega (arith, ltZ-false (negsuc n) (pos 0) h))
 
-  module _ (h : ltZ z (pos 0) ≡ false) (k : ltZ (pos top) z ≡ false) where
-    pub between : natAbs z ≡ clip top z
-    between = omega (arith, apart z, abs-parts z, ltZ-false z (pos 0) h, ltZ-false (pos top) z k)
+module _ (top p : ℕ) where
+  pub above : ltZ (pos top) (pos p) ≡ true → top ≡ min top p
+  above h = omega (arith, ltZ-true (pos top) (pos p) h)
 
-    pub between-fits : top < 2 ^ 16 → T (nonNeg z) × Fits w16 (natAbs z)
-    between-fits t =
-        (nonNeg-parts z (omega (arith, ltZ-false z (pos 0) h)), record { fits = omega (arith, apart z, abs-parts z, ltZ-false z (pos 0) h, ltZ-false (pos top) z k) })
+  module _ (h : ltZ (pos top) (pos p) ≡ false) where
+    pub within : p ≡ min top p
+    within = omega (arith, ltZ-false (pos top) (pos p) h)
+
+    pub within-fits : top < 2 ^ 16 → Fits w16 p
+    within-fits t = record { fits = omega (arith, ltZ-false (pos top) (pos p) h) }

@@ -2,6 +2,7 @@ ghost use mathlib.Core.Path.{_≡_};
 ghost use Prim.Native.Nat.{ℕ, _+_, _*_, _^_, _≤_, _<_};
 ghost use lib.IntN.{pos, _+ℤ_};
 ghost use lib.ListN.{length, getD};
+ghost use Rattle.whole.specs.Parts.{P};
 ghost use Rattle.whole.specs.Within.{Within, AllWithin};
 ghost use Rattle.answers.specs.Limits.{SIDE_LIMIT};
 ghost use Rattle.plane.specs.Place.{placeOf, SamplesOf, cut};
@@ -34,15 +35,22 @@ pub fn cut(count: usize, start: usize, n: usize) -> usize
     count - start
 }
 
+// The positive part: by itself, so that the compiler makes no branch of it.
+fn not_below_0(v: i64) -> i64
+    ensures { λ r. ⌜ r ≡ pos (P v) ⌝ }
+{
+    if v < 0 {
+        return 0;
+    }
+    v
+}
+
 // A sample and its residual, clipped to 0 .. top.
 fn clip(sample: u16, residual: i64, top: u16) -> u16
     requires { ⌜ Within (2 ^ 62) residual ⌝ }
     ensures { λ r. ⌜ r ≡ clip top (pos sample +ℤ residual) ⌝ }
 {
-    let v = (sample as i64) + residual;
-    if v < 0 {
-        return 0;
-    }
+    let v = not_below_0((sample as i64) + residual);
     if (top as i64) < v {
         return top;
     }

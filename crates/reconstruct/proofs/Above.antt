@@ -4,6 +4,7 @@ use mathlib.Core.Bool.{Bool, true, false, cond, not, _||_}
 use mathlib.Core.List.{List}
 use Prim.Native.Nat.{ℕ, zero, suc, _+_, _*_, _/_, _≤_, _<_}
 use native.Mathlib.Numerals.{add-one}
+use native.Mathlib.Nat as NatL
 use native.Mathlib.Omega.{arith}
 use borrow.Author.Tests.{lt-ltb, le-ltb, ne-eqb}
 use lib.Dec.{ltb, eqb}
@@ -11,16 +12,16 @@ use lib.IntN.{ℤ, pos, natAbs}
 use lib.ListN.{length, getD}
 use Rattle.whole.specs.Tests.{anyBelow}
 use Rattle.whole.proofs.Lists.{getD-tabulate}
-use Rattle.answers.specs.Limits.{COEF_LIMIT}
-use Rattle.answers.specs.Bad.{badQuantizer, anyBeyond}
-use Rattle.answers.proofs.Passed.{quantizer}
+use Rattle.answers.specs.Limits.{COEF_LIMIT, codeable}
+use Rattle.answers.specs.Bad.{badDepth, badQuantizer, anyBeyond}
+use Rattle.answers.proofs.Passed.{by-depth, all-within, quantizer}
 use Rattle.quant.specs.declared.DcQuant.{DcQuant}
 use Rattle.quant.specs.declared.AcQuant.{AcQuant}
 use Rattle.quant.specs.Places.{quantizerAt, dequantAll}
 use Rattle.quant.specs.Token.{dqDenom, dequant}
 use Rattle.quant.proofs.Sign.{dequant-sign, abs-with-sign}
-use Rattle.reconstruct.specs.Reconstruct.{badQuantizers, badCoefficient}
-use Rattle.reconstruct.specs.Bound.{Bounds, anyAbove}
+use Rattle.reconstruct.specs.Reconstruct.{badQuantizers, badCoefficient, tokenAnswer}
+use Rattle.reconstruct.specs.Bound.{Bounds, SmallTokens, anyAbove}
 use Rattle.reconstruct.proofs.Sizes.{place-fine}
 
 -- the count is not 0
@@ -83,6 +84,26 @@ module _ (size most dc ac : ℕ) (d : DcQuant) (a : AcQuant) (fine : badQuantize
       ∙ ap (λ (m : ℕ). ltb most (natAbs t) || ltb COEF_LIMIT m)
       (sym (ap natAbs (getD-tabulate _ (length tokens) k (pos 0) l) ∙ dequant-abs size (quantizerAt d a k) t (place-fine d a fine k))))
       ∙ any-or _ _ (length tokens)
+
+-- where no limit is near, neither 8 nor 9
+place-small : (d : DcQuant) (a : AcQuant) (tokens : List ℤ) → SmallTokens d a tokens → (k : ℕ) → natAbs (quantizerAt d a k) ≤ 16384
+unfolding quantizerAt
+place-small d a tokens s k = go (eqb k 0)
+  where
+    go : (b : Bool) → natAbs (cond b (d .0) (a .0)) ≤ 16384
+    go true = s .dc-small
+    go false = s .ac-small
+
+pub small-fine : (size depth : ℕ) (d : DcQuant) (a : AcQuant) (tokens : List ℤ) → badDepth depth ≡ false → badQuantizers d a ≡ false → SmallTokens d a tokens
+    → 0 ≡ tokenAnswer size d a depth tokens
+unfolding tokenAnswer badCoefficient dequantAll
+small-fine size depth d a tokens hd hq s =
+    let eight = all-within (codeable depth) (length tokens) tokens (λ k l. NatL.le-trans (s .small k l) (by-depth (λ e. 8192 ≤ codeable e) (omega arith) (omega arith) (omega arith) depth hd)) in
+    let nine = all-within COEF_LIMIT (length tokens) (dequantAll size d a tokens)
+    (λ k l. let t = getD tokens k (pos 0) in
+    rw (getD-tabulate (λ k. dequant size (quantizerAt d a k) (getD tokens k (pos 0))) (length tokens) k (pos 0) l, dequant-abs size (quantizerAt d a k) t (place-fine d a hq k))
+    (NatL.le-trans (NatL.div-le-self (natAbs t * natAbs (quantizerAt d a k)) (dqDenom size)) (NatL.le-trans (NatL.mul-le-mul (s .small k l) (place-small d a tokens s k)) (omega arith)))) in
+    rw (eight, nine)
 
 -- the two answers from the one scan
 pub nine : (a b : Bool) → a || b ≡ true → a ≡ false → b ≡ true

@@ -10,6 +10,7 @@ use borrow.Author.Tests.{eqb-true}
 use lib.Dec.{ltb, eqb, lit≤}
 use lib.IntN.{ℤ, pos, natAbs, _*ℤ_}
 use lib.Pow.{pow-pos}
+use lib.Seq.{ext-getD}
 use lib.ListN.{length, getD, replicate, length-replicate, getD-replicate, List·getD-eq-default}
 use Rattle.whole.specs.Lists.{tabulate, fill}
 use Rattle.whole.specs.Tests.{anyBelow}
@@ -36,8 +37,8 @@ use Rattle.blocks.proofs.Lines.{line-same, zeros-at}
 use Rattle.blocks.proofs.Live.{dead-at}
 use Rattle.blocks.proofs.Blocks.{block-ext, rows-length, rows-at, anew-at}
 use Rattle.blocks.proofs.Inverse.{inverse2d-length, inverse2d-at, inverse2d-past, inverse2d-within, dc-only}
+use Rattle.idct.proofs.Answers.{any-type}
 use Rattle.reconstruct.specs.Reconstruct.{side, area, badQuantizers, Accepted, onlyFirst, residual, added}
-use Rattle.reconstruct.proofs.Sixteen.{below-sixteen, few-length, few-at}
 use Rattle.reconstruct.proofs.Sizes.{by-size, area-most, side-most, place-fine}
 
 -- ---- lists that agree in the block have the same residual there
@@ -61,17 +62,6 @@ module _ (n kind : ℕ) (lossless : Bool) (s t : List ℤ) (room : 2 ^ n * 2 ^ n
       (line-same j (2 ^ n) (2 ^ n) (rows R (2 ^ n) s) (rows R (2 ^ n) t)
       (λ k l. rw (NatL.add-comm j (k * 2 ^ n)) (same-rows k j l hj)))
       ∙ sym (inverse2d-at n kind lossless t wide i j hi hj)
-
--- 4 by 4: the residual of the sixteen numbers by themselves, put back
-pub by-front : (kind : ℕ) (lossless : Bool) (block : List ℤ) → length block ≡ 1024
-    → fill 16 (λ k. getD (inverse2d 2 kind lossless (tabulate (λ k. getD block k (pos 0)) 16)) k (pos 0)) block ≡ inverse2d 2 kind lossless block
-by-front kind lossless block h =
-    let f = tabulate (λ k. getD block k (pos 0)) 16 in
-    let g : ℕ → ℤ = λ k. getD (inverse2d 2 kind lossless f) k (pos 0) in
-    block-ext 4 (fill 16 g block) (inverse2d 2 kind lossless block) (length-fill 16 g block ∙ sym (inverse2d-length 2 kind lossless block))
-    (λ i j hi hj. fill-below (pos 0) 16 g block (i * 4 + j) (below-sixteen i j hi hj) (omega (arith, below-sixteen i j hi hj))
-    ∙ same-block 2 kind lossless f block (omega (arith, few-length block)) (omega arith) (few-at block) i j hi hj)
-    (λ p q. fill-rest (pos 0) 16 g block p q ∙ sym (inverse2d-past 2 kind lossless block p q))
 
 -- a token of 0 has a coefficient of 0
 zero-token : (size : ℕ) (dc : DcQuant) (ac : AcQuant) → badQuantizers dc ac ≡ false → (k : ℕ) → dequant size (quantizerAt dc ac k) (pos 0) ≡ pos 0
@@ -101,7 +91,7 @@ module _ (size : ℕ) (dc : DcQuant) (ac : AcQuant) (kind : ℕ) (lossless : Boo
   pub block-room : area size ≤ length (inFront (area size) size dc ac tokens)
   block-room = rw block-length (area-most size size-most)
 
-  all-length : length (dequantAll size dc ac tokens) ≡ area size
+  pub all-length : length (dequantAll size dc ac tokens) ≡ area size
   unfolding dequantAll
   all-length = length-tabulate _ (length tokens) ∙ a .all
 
@@ -132,6 +122,68 @@ module _ (size : ℕ) (dc : DcQuant) (ac : AcQuant) (kind : ℕ) (lossless : Boo
   unfolding residual
   residual-at i j hi hj =
       same-block (size + 2) kind lossless (inFront (area size) size dc ac tokens) (dequantAll size dc ac tokens) block-room (rw all-length (NatL.le-refl (area size))) block-at i j hi hj
+
+  -- the list of the coefficients by itself, and its residual
+  pub all-within : FirstWithin (2 ^ 31) (area size) (dequantAll size dc ac tokens)
+  all-within = record { each = λ k h. within-abs (omega (arith, a .coefs k (rw (a .all) h))) }
+
+  pub residual-length : length (residual size dc ac kind lossless tokens) ≡ area size
+  unfolding residual
+  residual-length = inverse2d-length (size + 2) kind lossless (dequantAll size dc ac tokens) ∙ all-length
+
+  pub residual-each : AllWithin (2 ^ 62) (residual size dc ac kind lossless tokens)
+  unfolding residual
+  residual-each = record { each = λ k. go k (decLt k (area size)) }
+    where
+      go : (k : ℕ) → Dec (k < area size) → Within (2 ^ 62) (getD (inverse2d (size + 2) kind lossless (dequantAll size dc ac tokens)) k (pos 0))
+      go k (yes h) = within-le (omega arith) (inverse2d-within (size + 2) kind lossless (dequantAll size dc ac tokens) (a .possible) (rw all-length (NatL.le-refl (area size))) all-within .each k h)
+      go k (no h) =
+          rw (List·getD-eq-default (inverse2d (size + 2) kind lossless (dequantAll size dc ac tokens)) (pos 0) {n = k} (rw (inverse2d-length (size + 2) kind lossless (dequantAll size dc ac tokens), all-length) (omega arith)))
+          within-zero
+
+-- the sixteen coefficients of a 4 by 4 block as the code fills them: past `count` the tokens are 0
+pub sixteen-all : (count : ℕ) (dc : DcQuant) (ac : AcQuant) (tokens : List ℤ) → count ≤ 16 → length tokens ≡ 16
+    → ((k : ℕ) → count ≤ k → k < 16 → getD tokens k (pos 0) ≡ pos 0) → badQuantizers dc ac ≡ false
+    → fill count (λ k. dequant 0 (quantizerAt dc ac k) (getD tokens k (pos 0))) (replicate 16 (pos 0)) ≡ dequantAll 0 dc ac tokens
+unfolding dequantAll
+sixteen-all count dc ac tokens h e z q =
+    rw e (ext-getD (pos 0) (fill count f (replicate 16 (pos 0))) (tabulate f 16) (long ∙ sym (length-tabulate f 16)) (λ k l. go k (rw long at l) (decLt k count)))
+  where
+    f : ℕ → ℤ
+    f k = dequant 0 (quantizerAt dc ac k) (getD tokens k (pos 0))
+
+    long : length (fill count f (replicate 16 (pos 0))) ≡ 16
+    long = length-fill count f (replicate 16 (pos 0)) ∙ length-replicate 16 (pos 0)
+
+    go : (k : ℕ) → k < 16 → Dec (k < count) → getD (fill count f (replicate 16 (pos 0))) k (pos 0) ≡ getD (tabulate f 16) k (pos 0)
+    go k l (yes m) = fill-below (pos 0) count f (replicate 16 (pos 0)) k m (rw (length-replicate 16 (pos 0)) l) ∙ sym (getD-tabulate f 16 k (pos 0) l)
+    go k l (no m) =
+        fill-rest (pos 0) count f (replicate 16 (pos 0)) k (omega arith) ∙ zeros-at 16 k
+        ∙ sym (getD-tabulate f 16 k (pos 0) l ∙ rw (z k (omega arith) l) (zero-token 0 dc ac q k))
+
+-- ---- 4 by 4, from the coefficients that the code fills in to the residual
+module _ (dc : DcQuant) (ac : AcQuant) (kind : ℕ) (lossless : Bool) (tokens : List ℤ) {few made : List ℤ} (e : few ≡ dequantAll 0 dc ac tokens) where
+  pub as-lossless : lossless ≡ true → made ≡ inverse2d 2 0 true few → made ≡ residual 0 dc ac kind lossless tokens
+  unfolding residual
+  as-lossless l m = m ∙ ap (inverse2d 2 0 true) e ∙ any-type 2 kind (dequantAll 0 dc ac tokens) ∙ rw l
+
+  pub as-lossy : lossless ≡ false → made ≡ inverse2d 2 kind false few → made ≡ residual 0 dc ac kind lossless tokens
+  unfolding residual
+  as-lossy l m = m ∙ ap (inverse2d 2 kind false) e ∙ rw l
+
+module _ (dc : DcQuant) (ac : AcQuant) (kind : ℕ) (lossless : Bool) (tokens : List ℤ) (a : Accepted 0 dc ac kind lossless tokens) where
+  -- what the transforms ask, and what adding back asks
+  pub few-fine : {few : List ℤ} → few ≡ dequantAll 0 dc ac tokens → (16 ≤ length few) × FirstWithin (2 ^ 31) 16 few
+  few-fine e = rw e (rw (all-length 0 dc ac kind lossless tokens a) (NatL.le-refl 16), all-within 0 dc ac kind lossless tokens a)
+
+  pub made-fine : {made : List ℤ} → made ≡ residual 0 dc ac kind lossless tokens → (length made ≡ 16) × AllWithin (2 ^ 62) made
+  made-fine e = rw e (residual-length 0 dc ac kind lossless tokens a, residual-each 0 dc ac kind lossless tokens a)
+
+pub made-added : (p : Plane) (top x y : ℕ) (dc : DcQuant) (ac : AcQuant) (kind : ℕ) (lossless : Bool) (tokens made : List ℤ) (samples : List ℕ) {after : List ℕ}
+    → made ≡ residual 0 dc ac kind lossless tokens → after ≡ planeAfter p top x y 4 (λ i j. getD made (i * 4 + j) (pos 0)) samples
+    → after ≡ added p top x y 0 dc ac kind lossless tokens samples
+unfolding added
+made-added p top x y dc ac kind lossless tokens made samples e h = h ∙ ap (λ (l : List ℤ). planeAfter p top x y 4 (λ i j. getD l (i * 4 + j) (pos 0)) samples) e
 
 -- ---- place 0 alone
 pub none-live : (p : ℕ → Bool) (n : ℕ) → ((k : ℕ) → k < n → p k ≡ false) → anyBelow p n ≡ false
@@ -177,12 +229,12 @@ dcOnly-within size x h b =
     (by-size (λ s. (2 ^ 31 + 2 ^ (bits (s + 2) - 1)) / 2 ^ bits (s + 2) ≤ 2 ^ 62) (lit≤ tt) (lit≤ tt) (lit≤ tt) (lit≤ tt) size h)
     (round2-within (bits (size + 2)) (by-size (λ s. 1 ≤ bits (s + 2)) (lit≤ tt) (lit≤ tt) (lit≤ tt) (lit≤ tt) size h) w)
 
-pub row-within : (v : ℤ) → Within (2 ^ 62) v → AllWithin (2 ^ 62) (replicate 32 v)
-row-within v b = record { each = λ k. go k (decLt k 32) }
+pub row-within : (n : ℕ) (v : ℤ) → Within (2 ^ 62) v → AllWithin (2 ^ 62) (replicate n v)
+row-within n v b = record { each = λ k. go k (decLt k n) }
   where
-    go : (k : ℕ) → Dec (k < 32) → Within (2 ^ 62) (getD (replicate 32 v) k (pos 0))
-    go k (yes h) = rw (getD-replicate 32 k v (pos 0) h) b
-    go k (no h) = rw (List·getD-eq-default (replicate 32 v) (pos 0) {n = k} (omega (arith, length-replicate 32 v))) within-zero
+    go : (k : ℕ) → Dec (k < n) → Within (2 ^ 62) (getD (replicate n v) k (pos 0))
+    go k (yes h) = rw (getD-replicate n k v (pos 0) h) b
+    go k (no h) = rw (List·getD-eq-default (replicate n v) (pos 0) {n = k} (rw (length-replicate n v) (omega arith))) within-zero
 
 -- ---- the type is 0 and place 0 alone is live: one number, added everywhere
 pub some-token : (size : ℕ) → 1 ≤ area size
@@ -197,9 +249,17 @@ only-first-is kind tokens h = go (eqb kind 0) (live 1 (length tokens - 1) tokens
     go true true p q = absurd (let z : _≡_ {A = ℕ} 0 1 = cc (rw (p, q) at h) in omega arith)
     go false b p q = absurd (let z : _≡_ {A = ℕ} 0 1 = cc (rw p at h) in omega arith)
 
-not-lossless : (size kind : ℕ) (lossless : Bool) → Possible (size + 2) kind lossless → (size ≡ 0 → ⊥) → lossless ≡ false
+pub not-lossless : (size kind : ℕ) (lossless : Bool) → Possible (size + 2) kind lossless → (size ≡ 0 → ⊥) → lossless ≡ false
 not-lossless size kind true p h = absurd (h (omega (arith, p .small refl)))
 not-lossless size kind false p h = refl
+
+-- and so the flag may be put in
+pub lossy-taken : (size : ℕ) (dc : DcQuant) (ac : AcQuant) (kind : ℕ) (lossless : Bool) (tokens : List ℤ) → lossless ≡ false → Accepted size dc ac kind lossless tokens → Accepted size dc ac kind false tokens
+lossy-taken size dc ac kind lossless tokens e a = rw e at a
+
+pub lossy-added : (p : Plane) (top x y size : ℕ) (dc : DcQuant) (ac : AcQuant) (kind : ℕ) (lossless : Bool) (tokens : List ℤ) (samples : List ℕ) → lossless ≡ false
+    → added p top x y size dc ac kind false tokens samples ≡ added p top x y size dc ac kind lossless tokens samples
+lossy-added p top x y size dc ac kind lossless tokens samples e = rw e
 
 flat-plain : (p : Plane) (top x y size : ℕ) (dc : DcQuant) (ac : AcQuant) (tokens : List ℤ) (samples : List ℕ) → SamplesOf p samples
     → Accepted size dc ac 0 false tokens → live 1 (length tokens - 1) tokens ≡ false
@@ -209,11 +269,10 @@ flat-plain p top x y size dc ac tokens samples s a dead =
     same-residuals p samples s top x y (side size) (λ i j. dcOnly (size + 2) (dequant size (dc .0) (getD tokens 0 (pos 0)))) _ (flat-at size dc ac tokens a dead)
 
 pub flat-added : (p : Plane) (top x y size : ℕ) (dc : DcQuant) (ac : AcQuant) (kind : ℕ) (lossless : Bool) (tokens : List ℤ) (samples : List ℕ) → SamplesOf p samples
-    → Accepted size dc ac kind lossless tokens → (size ≡ 0 → ⊥) → onlyFirst kind tokens ≡ true
+    → Accepted size dc ac kind lossless tokens → lossless ≡ false → onlyFirst kind tokens ≡ true
     → planeAfter p top x y (side size) (λ i j. dcOnly (size + 2) (dequant size (dc .0) (getD tokens 0 (pos 0)))) samples ≡ added p top x y size dc ac kind lossless tokens samples
-flat-added p top x y size dc ac kind lossless tokens samples s a h o =
+flat-added p top x y size dc ac kind lossless tokens samples s a l o =
     let k = only-first-is kind tokens o in
-    let l = not-lossless size kind lossless (a .possible) h in
     rw (k .0, l) (flat-plain p top x y size dc ac tokens samples s (rw (k .0, l) at a) (k .1))
 
 -- the first coefficient is within its limit

@@ -13,24 +13,23 @@ use plane::Plane;
 use quant::AcQuant;
 use quant::DcQuant;
 use quant::max_codeable_coef;
-ghost use mathlib.Core.Bool.{false, cond};
+ghost use mathlib.Core.Bool.{true, false, cond};
 ghost use mathlib.Core.Path.{_≡_};
 ghost use Prim.Native.Nat.{ℕ, _+_, _-_, _*_, _^_, _≤_, _<_};
 ghost use lib.Dec.{eqb};
 ghost use lib.IntN.{pos, natAbs};
 ghost use lib.ListN.{length, getD, replicate};
-ghost use Rattle.whole.specs.Lists.{tabulate, fill};
+ghost use Rattle.whole.specs.Lists.{fill};
 ghost use Rattle.whole.specs.Within.{AllWithin};
 ghost use Rattle.answers.specs.Answers.{number};
 ghost use Rattle.answers.specs.Bad.{badDepth, badQuantizer};
 ghost use Rattle.answers.specs.Limits.{COEF_LIMIT, codeable};
-ghost use Rattle.quant.specs.Places.{quantizerAt};
+ghost use Rattle.quant.specs.Places.{quantizerAt, dequantAll};
 ghost use Rattle.quant.specs.Token.{dqDenom, dequant};
 ghost use Rattle.plane.specs.Place.{SamplesOf};
 ghost use Rattle.plane.specs.Plane.{planeAfter};
-ghost use Rattle.blocks.specs.Block.{FirstWithin};
-ghost use Rattle.blocks.specs.Inverse.{inverse2d, dcOnly, Possible};
-ghost use Rattle.reconstruct.specs.Bound.{Bounds, anyAbove};
+ghost use Rattle.blocks.specs.Inverse.{dcOnly};
+ghost use Rattle.reconstruct.specs.Bound.{Bounds, SmallTokens, anyAbove};
 ghost use Rattle.reconstruct.specs.Reconstruct.{side, largest, badQuantizers, badPlane, shapeOf, tokenAnswer, Accepted, added, onlyFirst, Reconstructed};
 
 // n0, the numbers of a row of the block.
@@ -185,15 +184,31 @@ fn some_above(tokens: &[i64], count: usize, dc: u64, ac: u64) -> bool
     above != 0
 }
 
-// The same of all tokens; of sixteen by a literal count, for speed.
-fn any_above(tokens: &[i64], dc: u64, ac: u64) -> bool
-    ensures { λ r. ⌜ r ≡ anyAbove dc ac (length (now (tokens .entry))) (now (tokens .entry)) ⌝ }
+// No token is beyond 8,192; of sixteen by a literal count, for speed.
+fn all_near(tokens: &[i64]) -> bool
+    ensures { λ r. ⌜ (r ≡ true → (k : ℕ) → k < length (now (tokens .entry)) → natAbs (getD (now (tokens .entry)) k (pos 0)) ≤ 8192) ⌝ }
 {
     let count = tokens.len();
     if count == 16 {
-        return some_above(tokens, 16, dc, ac);
+        return blocks::all_raised(tokens, 0, 16, 8192) < 16384;
     }
-    some_above(tokens, count, dc, ac)
+    blocks::all_raised(tokens, 0, count, 8192) < 16384
+}
+
+// Whether no limit is near: 8,192 × 16,384 is the coefficients' limit. Quick, and enough for almost every block.
+fn all_small(tokens: &[i64], dc_quant: DcQuant, ac_quant: AcQuant) -> bool
+    requires { ⌜ badQuantizers «dc_quant» «ac_quant» ≡ false ⌝ }
+    ensures { λ r. ⌜ (r ≡ true → SmallTokens «dc_quant» «ac_quant» (now (tokens .entry))) ⌝ }
+{
+    let dc = dc_quant.0;
+    let ac = ac_quant.0;
+    if 16384 < dc {
+        return false;
+    }
+    if 16384 < ac {
+        return false;
+    }
+    all_near(tokens)
 }
 
 // The answer of the tokens: an 8 anywhere before any 9.
@@ -207,9 +222,13 @@ fn check_tokens(
     requires { ⌜ (badDepth depth ≡ false) × (badQuantizers «dc_quant» «ac_quant» ≡ false) ⌝ }
     ensures { λ r. ⌜ number r ≡ tokenAnswer size «dc_quant» «ac_quant» depth (now (tokens .entry)) ⌝ }
 {
+    if all_small(tokens, dc_quant, ac_quant) {
+        return Answer::Done;
+    }
     let most = max_codeable_coef(depth) as u64;
-    if any_above(
+    if some_above(
         tokens,
+        tokens.len(),
         dc_reach(dc_quant, size, most),
         ac_reach(ac_quant, size, most),
     ) {
@@ -256,54 +275,47 @@ fn dequantize(
     }
 }
 
-// The sixteen numbers of a 4 by 4 block by themselves.
-fn front(block: &[i64; 1024]) -> [i64; 16]
-    ensures { λ r. ⌜ r ≡ tabulate (λ k. getD (now (block .entry)) k (pos 0)) 16 ⌝ }
+// The coefficients of a 4 by 4 block; `count` leaves out tokens at the end that are 0.
+fn coefs4(tokens: &[i64], count: usize, dc_quant: DcQuant, ac_quant: AcQuant) -> [i64; 16]
+    requires { ⌜ (count ≤ 16) × (length (now tokens) ≡ 16) × ((k : ℕ) → count ≤ k → k < 16 → getD (now tokens) k (pos 0) ≡ pos 0) × ((k : ℕ) → k < length (now tokens) → natAbs (getD (now tokens) k (pos 0)) ≤ codeable 12) × (badQuantizers «dc_quant» «ac_quant» ≡ false) ⌝ }
+    ensures { λ r. ⌜ r ≡ dequantAll 0 «dc_quant» «ac_quant» (now (tokens .entry)) ⌝ }
 {
     let mut few = [0i64; 16];
-    for k in 0..16usize {
-        few[k] = block[k];
+    for k in 0..count {
+        few[k] = coef_at(k, tokens[k], 0, dc_quant, ac_quant);
     }
     few
 }
 
-// And back into the block.
-fn put_front(block: &mut [i64; 1024], few: &[i64; 16])
-    ensures { λ _. ⌜ now (block .exit) ≡ fill 16 (λ k. getD (now (few .entry)) k (pos 0)) (now (block .entry)) ⌝ }
-{
-    for k in 0..16usize {
-        block[k] = few[k];
-    }
-}
-
-// A 4 by 4 residual into the plane. A whole block is read at literal places only, a cut one by itself: so the 1,024 cost nothing.
-fn add_back4(samples: &mut [u16], plane: Plane, x: usize, y: usize, block: &[i64; 1024], top: u16)
-    requires { ⌜ SamplesOf plane (now samples) × (length (now block) ≡ 1024) × AllWithin (2 ^ 62) (now block) ⌝ }
-    ensures { λ _. ⌜ now (samples .exit) ≡ planeAfter plane top x y 4 (λ i j. getD (now (block .entry)) (i * 4 + j) (pos 0)) (now (samples .entry)) ⌝ }
+// A 4 by 4 residual into the plane; rows and columns are literals where they can be, for speed.
+fn add_back4(samples: &mut [u16], plane: Plane, x: usize, y: usize, few: &[i64; 16], top: u16)
+    requires { ⌜ SamplesOf plane (now samples) × (length (now few) ≡ 16) × AllWithin (2 ^ 62) (now few) ⌝ }
+    ensures { λ _. ⌜ now (samples .exit) ≡ planeAfter plane top x y 4 (λ i j. getD (now (few .entry)) (i * 4 + j) (pos 0)) (now (samples .entry)) ⌝ }
 {
     let rows = plane::cut(plane.height, y, 4);
     let cols = plane::cut(plane.width, x, 4);
     if rows == 4 {
         if cols == 4 {
-            plane::add_rows(samples, plane, x, y, block, 4, 4, 4, 4, top);
+            plane::add_rows(samples, plane, x, y, few, 4, 4, 4, 4, top);
             return;
         }
     }
-    let few = front(block);
-    plane::add_back(samples, plane, x, y, &few, 4, 4, top);
+    match cols {
+        1 => plane::add_rows(samples, plane, x, y, few, 4, 4, rows, 1, top),
+        2 => plane::add_rows(samples, plane, x, y, few, 4, 4, rows, 2, top),
+        3 => plane::add_rows(samples, plane, x, y, few, 4, 4, rows, 3, top),
+        _ => plane::add_back(samples, plane, x, y, few, 4, 4, top),
+    }
 }
 
-// The residual of a 4 by 4 block in the place of its coefficients.
-fn inverse4(block: &mut [i64; 1024], kind: u8, lossless: bool)
-    requires { ⌜ (length (now block) ≡ 1024) × Possible 2 kind lossless × FirstWithin (2 ^ 31) 16 (now block) ⌝ }
-    ensures { λ _. ⌜ now (block .exit) ≡ inverse2d 2 kind lossless (now (block .entry)) ⌝ }
+fn sixteen_of(v: i64) -> [i64; 16]
+    ensures { λ r. ⌜ r ≡ replicate 16 v ⌝ }
 {
-    let mut few = front(block);
-    idct::fast::inverse_fast(&mut few, 2, kind, lossless);
-    put_front(block, &few);
+    [v; 16]
 }
 
-// Tokens that are taken, 4 by 4.
+// Tokens that are taken, 4 by 4. Four cases to their ends in one function: then the compiler adds all of them back in one place,
+// and leaves out what the zeros of a lossless block would do.
 fn reconstruct_4(
     samples: &mut [u16],
     plane: Plane,
@@ -319,13 +331,30 @@ fn reconstruct_4(
     requires { ⌜ SamplesOf plane (now samples) × Accepted 0 «dc_quant» «ac_quant» kind lossless (now tokens) ⌝ }
     ensures { λ _. ⌜ now (samples .exit) ≡ added plane top x y 0 «dc_quant» «ac_quant» kind lossless (now (tokens .entry)) (now (samples .entry)) ⌝ }
 {
-    let mut block = zeros();
-    dequantize(&mut block, tokens, 16, 0, dc_quant, ac_quant);
-    inverse4(&mut block, kind, lossless);
-    add_back4(samples, plane, x, y, &block, top);
+    if lossless {
+        if any_live(tokens, 4, 12) {
+            let mut few = coefs4(tokens, 16, dc_quant, ac_quant);
+            idct::fast::wht_passes(&mut few);
+            add_back4(samples, plane, x, y, &few, top);
+            return;
+        }
+        let mut few = coefs4(tokens, 4, dc_quant, ac_quant);
+        idct::fast::wht_passes(&mut few);
+        add_back4(samples, plane, x, y, &few, top);
+        return;
+    }
+    if only_first(tokens, 16, kind) {
+        let coef = dc_quant.dequant(tokens[0], 0);
+        let few = sixteen_of(idct::fast::dc_value(coef, 2));
+        add_back4(samples, plane, x, y, &few, top);
+        return;
+    }
+    let mut few = coefs4(tokens, 16, dc_quant, ac_quant);
+    idct::fast::inverse4(&mut few, kind);
+    add_back4(samples, plane, x, y, &few, top);
 }
 
-// The same at any size.
+// Tokens that are taken, at any size.
 fn reconstruct_n(
     samples: &mut [u16],
     plane: Plane,
@@ -336,15 +365,14 @@ fn reconstruct_n(
     dc_quant: DcQuant,
     ac_quant: AcQuant,
     kind: u8,
-    lossless: bool,
     top: u16,
 )
-    requires { ⌜ SamplesOf plane (now samples) × Accepted size «dc_quant» «ac_quant» kind lossless (now tokens) ⌝ }
-    ensures { λ _. ⌜ now (samples .exit) ≡ added plane top x y size «dc_quant» «ac_quant» kind lossless (now (tokens .entry)) (now (samples .entry)) ⌝ }
+    requires { ⌜ SamplesOf plane (now samples) × Accepted size «dc_quant» «ac_quant» kind false (now tokens) ⌝ }
+    ensures { λ _. ⌜ now (samples .exit) ≡ added plane top x y size «dc_quant» «ac_quant» kind false (now (tokens .entry)) (now (samples .entry)) ⌝ }
 {
     let mut block = zeros();
     dequantize(&mut block, tokens, tokens.len(), size, dc_quant, ac_quant);
-    idct::fast::both_passes(&mut block, size + 2, kind, lossless);
+    idct::fast::both_passes(&mut block, size + 2, kind, false);
     let n0 = side(size);
     plane::add_back(samples, plane, x, y, &block, n0, n0, top);
 }
@@ -369,21 +397,20 @@ fn reconstruct_flat(
     requires { ⌜ SamplesOf plane (now samples) × (size ≤ 3) × (badQuantizer («dc_quant» .0) ≡ false) × (natAbs token ≤ codeable 12) × (natAbs (dequant size («dc_quant» .0) token) ≤ COEF_LIMIT) ⌝ }
     ensures { λ _. ⌜ now (samples .exit) ≡ planeAfter plane top x y (side size) (λ i j. dcOnly (size + 2) (dequant size («dc_quant» .0) token)) (now (samples .entry)) ⌝ }
 {
-    let mut block = zeros();
-    block[0] = dc_quant.dequant(token, size);
-    let row = row_of(idct::fast::dc_value(block[0], size + 2));
+    let coef = dc_quant.dequant(token, size);
+    let row = row_of(idct::fast::dc_value(coef, size + 2));
     plane::add_back(samples, plane, x, y, &row, 0, side(size), top);
 }
 
-// Whether the type is 0 and no token but that at place 0 is live.
-fn only_first(tokens: &[i64], kind: u8) -> bool
-    requires { ⌜ 1 ≤ length (now tokens) ⌝ }
+// Whether the type is 0 and no token of the `count` but that at place 0 is live.
+fn only_first(tokens: &[i64], count: usize, kind: u8) -> bool
+    requires { ⌜ (1 ≤ count) × (length (now tokens) ≡ count) ⌝ }
     ensures { λ r. ⌜ r ≡ onlyFirst kind (now (tokens .entry)) ⌝ }
 {
     if kind != 0 {
         return false;
     }
-    !any_live(tokens, 1, tokens.len() - 1)
+    !any_live(tokens, 1, count - 1)
 }
 
 // The residual of tokens that are taken, into the plane.
@@ -418,7 +445,7 @@ fn add_residual(
         );
         return;
     }
-    if only_first(tokens, kind) {
+    if only_first(tokens, tokens.len(), kind) {
         reconstruct_flat(samples, plane, x, y, size, tokens[0], dc_quant, top);
         return;
     }
@@ -432,7 +459,6 @@ fn add_residual(
         dc_quant,
         ac_quant,
         kind,
-        lossless,
         top,
     );
 }

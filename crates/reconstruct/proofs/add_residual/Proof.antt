@@ -1,5 +1,6 @@
 -- `reconstruct::add_residual` meets its contract.
 use mathlib.Core.Path.{_≡_, refl, sym, ap, _∙_}
+use mathlib.Core.Bool.{false}
 use Prim.Native.Nat.{ℕ, _+_, _≤_, _<_}
 use native.Mathlib.Omega.{arith}
 use lib.IntN.{pos}
@@ -9,13 +10,17 @@ use mir.ValLaws.{toZ-ofZ}
 use borrow.Author.Needs.{needs}
 use Rattle.reconstruct.specs.Reconstruct.{area, Accepted}
 use Rattle.reconstruct.proofs.Sizes.{dc-fine}
-use Rattle.reconstruct.proofs.Residual.{size-most, some-token, flat-added, first-within}
+use Rattle.reconstruct.proofs.Residual.{size-most, some-token, not-lossless, lossy-taken, lossy-added, flat-added, first-within}
 use Rattle.reconstruct.proofs.add_residual.Statement.{statement}
 use Rattle.reconstruct.proofs.add_residual.Tie as tie
 
 -- there is a first token
 some : (s : tie.Start) → 0 < length (s .args .tokens .now)
 some s = rw (s .pre .1 .all) (some-token (s .args .size))
+
+-- above 4 by 4 nothing is lossless
+lossy : (c : tie.Else1) → c .before .before .args .lossless ≡ false
+lossy c = let s = c .before .before in not-lossless (s .args .size) (s .args .kind) (s .args .lossless) (s .pre .1 .possible) (c .if1 .left)
 
 reconstruct-flat-requires : tie.Need-reconstruct-flat-requires
 reconstruct-flat-requires c κs =
@@ -38,7 +43,20 @@ returns-2 c =
     let e = toZ-ofZ w64 (getD (a .tokens .now) 0 (pos 0)) (record { sfits = r .reconstruct-flat-arg2 .given }) in
     rw e at (c .before .before .reconstruct-flat .ensures)
     ∙ flat-added (a .plane) (a .top) (a .x) (a .y) (a .size) (a .dc-quant) (a .ac-quant) (a .kind) (a .lossless) (a .tokens .now) (a .samples .now) (s .pre .0) (s .pre .1)
-    (r .before .before .before .before .if1 .left) (sym (r .before .before .before .only-first .ensures) ∙ r .before .before .if2 .taken)
+    (lossy (r .before .before .before .before)) (sym (r .before .before .before .only-first .ensures) ∙ r .before .before .if2 .taken)
+
+reconstruct-n-requires : tie.Need-reconstruct-n-requires
+reconstruct-n-requires c κs =
+    let s = c .before .before .before .before .before in
+    let a = s .args in
+    (s .pre .0, lossy-taken (a .size) (a .dc-quant) (a .ac-quant) (a .kind) (a .lossless) (a .tokens .now) (lossy (c .before .before .before)) (s .pre .1))
+
+returns-3 : tie.Need-returns-3
+returns-3 c =
+    let s = c .before .before .before .before .before .before .before .before in
+    let a = s .args in
+    c .before .before .reconstruct-n .ensures
+    ∙ lossy-added (a .plane) (a .top) (a .x) (a .y) (a .size) (a .dc-quant) (a .ac-quant) (a .kind) (a .lossless) (a .tokens .now) (a .samples .now) (lossy (c .before .before .before .before .before .before))
 
 pub add-residual-spec : {M : Type 1} → statement M
 add-residual-spec =
@@ -47,11 +65,11 @@ add-residual-spec =
     (λ c κs. let s = c .before .before .before in (s .pre .0, rw (c .before .if1 .taken) at (s .pre .1)))
     (λ c. search needs)
     (λ c. rw (c .before .before .before .before .if1 .taken) (c .before .before .reconstruct-4 .ensures))
-    (λ c κs. some (c .before .before))
+    (λ c κs. (some (c .before .before), refl))
     (λ c. some (c .before .before .before .before .before))
     reconstruct-flat-requires
     (λ c. search needs)
     returns-2
-    (λ c κs. search needs)
+    reconstruct-n-requires
     (λ c. search needs)
-    (λ c. search needs))
+    returns-3)

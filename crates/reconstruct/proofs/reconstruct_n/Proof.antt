@@ -1,5 +1,6 @@
 -- `reconstruct::reconstruct_n` meets its contract.
 use mathlib.Core.Path.{_≡_, refl, sym, ap, _∙_}
+use mathlib.Core.Bool.{false}
 use Prim.Native.Nat.{ℕ, _+_, _*_, _≤_, _<_}
 use native.Mathlib.Nat as NatL
 use native.Mathlib.Omega.{arith}
@@ -25,7 +26,7 @@ coefs c =
 
 -- and after the transform
 residuals : (c : tie.After-both-passes) → let a = c .before .before .before .before .before .before .args in
-    c .both-passes .last .0 ≡ inverse2d (a .size + 2) (a .kind) (a .lossless) (inFront (area (a .size)) (a .size) (a .dc-quant) (a .ac-quant) (a .tokens .now))
+    c .both-passes .last .0 ≡ inverse2d (a .size + 2) (a .kind) false (inFront (area (a .size)) (a .size) (a .dc-quant) (a .ac-quant) (a .tokens .now))
 residuals c = rw (coefs (c .before .before)) at (c .both-passes .ensures)
 
 dequantize-requires : tie.Need-dequantize-requires
@@ -33,13 +34,13 @@ dequantize-requires c κs =
     let s = c .before .before .before in
     let a = s .args in
     let t = s .pre .1 in
-    (omega (arith, t .all, area-most (a .size) (size-most (a .size) (a .dc-quant) (a .ac-quant) (a .kind) (a .lossless) (a .tokens .now) t)), omega arith, t .codeables, t .quantizers)
+    (omega (arith, t .all, area-most (a .size) (size-most (a .size) (a .dc-quant) (a .ac-quant) (a .kind) false (a .tokens .now) t)), omega arith, t .codeables, t .quantizers)
 
 count : tie.Need-slice-aggregate-both-passes
 count c =
     let s = c .before .before .before .before .before in
     let a = s .args in
-    rw (coefs (c .before)) (sym (block-length (a .size) (a .dc-quant) (a .ac-quant) (a .kind) (a .lossless) (a .tokens .now) (s .pre .1)))
+    rw (coefs (c .before)) (sym (block-length (a .size) (a .dc-quant) (a .ac-quant) (a .kind) false (a .tokens .now) (s .pre .1)))
 
 both-passes-requires : tie.Need-both-passes-requires
 both-passes-requires c κs =
@@ -48,8 +49,8 @@ both-passes-requires c κs =
     let t = s .pre .1 in
     rw (coefs (c .before)) (
       t .possible,
-      block-room (a .size) (a .dc-quant) (a .ac-quant) (a .kind) (a .lossless) (a .tokens .now) t,
-      block-within (a .size) (a .dc-quant) (a .ac-quant) (a .kind) (a .lossless) (a .tokens .now) t,
+      block-room (a .size) (a .dc-quant) (a .ac-quant) (a .kind) false (a .tokens .now) t,
+      block-within (a .size) (a .dc-quant) (a .ac-quant) (a .kind) false (a .tokens .now) t,
     )
 
 add-back-requires : tie.Need-add-back-requires
@@ -57,14 +58,14 @@ add-back-requires c κs =
     let s = c .before .before .before .before .before .before .before .before .before .before in
     let a = s .args in
     let t = s .pre .1 in
-    let h = side-most (a .size) (size-most (a .size) (a .dc-quant) (a .ac-quant) (a .kind) (a .lossless) (a .tokens .now) t) in
+    let h = side-most (a .size) (size-most (a .size) (a .dc-quant) (a .ac-quant) (a .kind) false (a .tokens .now) t) in
     let b = inFront (area (a .size)) (a .size) (a .dc-quant) (a .ac-quant) (a .tokens .now) in
     rw (residuals (c .before .before .before .before), c .before .before .side .ensures) (
       s .pre .0,
       h,
       h,
-      λ i j hi hj. rw (inverse2d-length (a .size + 2) (a .kind) (a .lossless) b) (NatL.lt-of-lt-of-le (in-block (a .size) i j hi hj) (block-room (a .size) (a .dc-quant) (a .ac-quant) (a .kind) (a .lossless) (a .tokens .now) t)),
-      residual-within (a .size) (a .dc-quant) (a .ac-quant) (a .kind) (a .lossless) (a .tokens .now) t,
+      λ i j hi hj. rw (inverse2d-length (a .size + 2) (a .kind) false b) (NatL.lt-of-lt-of-le (in-block (a .size) i j hi hj) (block-room (a .size) (a .dc-quant) (a .ac-quant) (a .kind) false (a .tokens .now) t)),
+      residual-within (a .size) (a .dc-quant) (a .ac-quant) (a .kind) false (a .tokens .now) t,
     )
 
 returns : tie.Need-returns
@@ -75,7 +76,7 @@ returns c =
     c .before .before .add-back .ensures
     ∙ rw (residuals (c .before .before .before .before .before .before .before), c .before .before .before .before .before .side .ensures)
     (same-residuals (a .plane) (a .samples .now) (s .pre .0) (a .top) (a .x) (a .y) (side (a .size)) _ _
-    (residual-at (a .size) (a .dc-quant) (a .ac-quant) (a .kind) (a .lossless) (a .tokens .now) (s .pre .1)))
+    (residual-at (a .size) (a .dc-quant) (a .ac-quant) (a .kind) false (a .tokens .now) (s .pre .1)))
 
 pub reconstruct-n-spec : {M : Type 1} → statement M
 reconstruct-n-spec =
