@@ -1,4 +1,5 @@
 //! Our calls beside the Rust's, on the same inputs, in one process: ns a block, least of many rounds, the two sides taking turns.
+//! bench ROUNDS CASE: only the cases whose name, as printed, has CASE in it.
 //! Inputs are copied before the clock starts; a round is one pass over all blocks of a case.
 #![allow(dead_code)]
 #[path = "../oracle/rust/idct.rs"]
@@ -11,25 +12,46 @@ mod reconstruct;
 use std::hint::black_box;
 use std::time::Instant;
 
-/// How a slice crosses: the static library takes a pointer and then a length; the natively compiled module a pointer to the two.
-#[cfg(target_arch = "x86_64")]
 mod ours {
-    unsafe extern "C" {
-        fn bracetwill_inverse_transform_2d(block: *mut i64, len: usize, n: u32, tx_type: u8, lossless: bool) -> u32;
+    #[allow(clippy::too_many_arguments)]
+    mod c {
+        unsafe extern "C" {
+            pub fn bracetwill_inverse_transform_2d(block: *mut i64, len: usize, n: u32, tx_type: u8, lossless: bool) -> u32;
+            pub fn bracetwill_reconstruct_block(
+                samples: *mut u16,
+                count: usize,
+                width: usize,
+                height: usize,
+                x: usize,
+                y: usize,
+                tx_sz: u32,
+                tokens: *const i64,
+                len: usize,
+                dc_quant: i32,
+                ac_quant: i32,
+                tx_type: u8,
+                lossless: bool,
+                bit_depth: u32,
+            ) -> u32;
+        }
     }
     pub fn inverse_transform_2d(block: &mut [i64], n: u32, tx_type: u8, lossless: bool) -> u32 {
-        unsafe { bracetwill_inverse_transform_2d(block.as_mut_ptr(), block.len(), n, tx_type, lossless) }
+        unsafe { c::bracetwill_inverse_transform_2d(block.as_mut_ptr(), block.len(), n, tx_type, lossless) }
     }
-}
-#[cfg(not(target_arch = "x86_64"))]
-mod ours {
-    #[repr(C)]
-    pub struct Lent<T>(*mut T, usize);
-    unsafe extern "C" {
-        fn bracetwill_inverse_transform_2d(block: *const Lent<i64>, n: u32, tx_type: u8, lossless: bool) -> u32;
-    }
-    pub fn inverse_transform_2d(block: &mut [i64], n: u32, tx_type: u8, lossless: bool) -> u32 {
-        unsafe { bracetwill_inverse_transform_2d(&Lent(block.as_mut_ptr(), block.len()), n, tx_type, lossless) }
+    #[allow(clippy::too_many_arguments)]
+    pub fn reconstruct_block(
+        samples: &mut [u16],
+        size: (usize, usize),
+        at: (usize, usize),
+        tx_sz: u32,
+        tokens: &[i64],
+        quants: (i32, i32),
+        tx_type: u8,
+        lossless: bool,
+        depth: u32,
+    ) -> u32 {
+        let (p, count) = (samples.as_mut_ptr(), samples.len());
+        unsafe { c::bracetwill_reconstruct_block(p, count, size.0, size.1, at.0, at.1, tx_sz, tokens.as_ptr(), tokens.len(), quants.0, quants.1, tx_type, lossless, depth) }
     }
 }
 
@@ -85,17 +107,30 @@ fn measure(rounds: usize, count: usize, mut prepare: impl FnMut(), sides: &mut [
     least
 }
 
-fn driver(rounds: usize) {
-    println!("2D driver          Rust ns   ours ns   ours/Rust");
+/// Types of a size, with the lossless blocks of 4 by 4 at the end.
+fn kinds(n: u32) -> &'static [(u8, bool)] {
+    match n {
+        2 => &[(0, false), (1, false), (2, false), (3, false), (0, true)],
+        5 => &[(0, false)],
+        _ => &[(0, false), (1, false), (2, false), (3, false)],
+    }
+}
+
+fn name(n0: usize, (ty, lossless): (u8, bool), density: usize) -> String {
+    let kind = if lossless { "wht".to_string() } else { format!("{ty}") };
+    format!("{n0:>2} x {n0:<2} | {kind:<3} | {:<6}", DENSITY[density])
+}
+
+fn driver(rounds: usize, only: &str) {
+    println!("2D driver\n| block   | type | density | Rust ns | ours ns | ours / Rust |");
     for n in 2..=5u32 {
         let n0 = 1usize << n;
-        let kinds: &[(u8, bool)] = match n {
-            2 => &[(0, false), (1, false), (2, false), (3, false), (0, true)],
-            5 => &[(0, false)],
-            _ => &[(0, false), (1, false), (2, false), (3, false)],
-        };
-        for &(ty, lossless) in kinds {
+        for &(ty, lossless) in kinds(n) {
             for density in 0..3 {
+                let name = name(n0, (ty, lossless), density);
+                if !name.contains(only) {
+                    continue;
+                }
                 let count = (1 << 16) / (n0 * n0);
                 let mut rng = Rng(0x9e37_79b9_7f4a_7c15 ^ (n as u64) << 8 ^ ty as u64);
                 let input: Vec<i64> = (0..count).flat_map(|_| coefficients(&mut rng, n0, density)).collect();
@@ -116,16 +151,70 @@ fn driver(rounds: usize) {
                 let want = work.borrow().clone();
                 work.borrow_mut().copy_from_slice(&input);
                 own();
-                assert!(want == *work.borrow(), "the results differ: n {n} type {ty}");
+                assert!(want == *work.borrow(), "the results differ: {name}");
                 let t = measure(rounds, count, || work.borrow_mut().copy_from_slice(&input), &mut [&mut theirs, &mut own]);
-                let kind = if lossless { "wht".to_string() } else { format!("{ty}") };
-                println!("{n0:>2}x{n0:<2} type {kind:<4}{:<7} {:>8.1}  {:>8.1}   {:.2}", DENSITY[density], t[0], t[1], t[1] / t[0]);
+                println!("| {name} | {:.1} | {:.1} | {:.2} |", t[0], t[1], t[1] / t[0]);
+            }
+        }
+    }
+}
+
+/// Width and height of the plane of whole blocks.
+const SIDE: usize = 256;
+
+/// Each block at its own place. Cut: the plane has three quarters of the block's columns. Tokens within 51, quantizers 40 and 50 (lossless 4).
+fn rebuild(rounds: usize, only: &str) {
+    println!("reconstruct_block\n| block   | type | density | place | Rust ns | ours ns | ours / Rust |");
+    for n in 2..=5u32 {
+        let n0 = 1usize << n;
+        for &(ty, lossless) in kinds(n) {
+            for density in 0..3 {
+                for cut in [false, true] {
+                    let name = format!("{} | {:<5}", name(n0, (ty, lossless), density), if cut { "cut" } else { "whole" });
+                    if !name.contains(only) {
+                        continue;
+                    }
+                    let count = SIDE * SIDE / (n0 * n0);
+                    let mut rng = Rng(0x9e37_79b9_7f4a_7c15 ^ (n as u64) << 8 ^ ty as u64);
+                    let tokens: Vec<i64> = (0..count).flat_map(|_| coefficients(&mut rng, n0, density)).map(|v| v / 40 + v.signum()).collect();
+                    let size = if cut { (3 * n0 / 4, count * n0) } else { (SIDE, SIDE) };
+                    let start: Vec<u16> = (0..size.0 * size.1).map(|_| (rng.next() % 256) as u16).collect();
+                    let places: Vec<(usize, usize)> = (0..count).map(|k| if cut { (0, k * n0) } else { (k * n0 % SIDE, k * n0 / SIDE * n0) }).collect();
+                    let (dc, ac) = if lossless { (4, 4) } else { (40, 50) };
+                    let plane = std::cell::RefCell::new(intra::Plane::new(size.0, size.1));
+                    let prepare = || plane.borrow_mut().samples_mut().copy_from_slice(&start);
+                    let mut theirs = || {
+                        let mut p = plane.borrow_mut();
+                        for (b, &(x, y)) in tokens.chunks_exact(n0 * n0).zip(&places) {
+                            let (x, y, sz, b) = (black_box(x), black_box(y), black_box(n - 2), black_box(b));
+                            reconstruct::reconstruct_block(&mut p, x, y, sz, b, black_box(dc), black_box(ac), black_box(ty), black_box(lossless), black_box(8));
+                        }
+                    };
+                    let mut own = || {
+                        let mut p = plane.borrow_mut();
+                        for (b, &(x, y)) in tokens.chunks_exact(n0 * n0).zip(&places) {
+                            let (at, sz, b) = ((black_box(x), black_box(y)), black_box(n - 2), black_box(b));
+                            ours::reconstruct_block(p.samples_mut(), size, at, sz, b, (black_box(dc), black_box(ac)), black_box(ty), black_box(lossless), black_box(8));
+                        }
+                    };
+                    prepare();
+                    theirs();
+                    let want = plane.borrow().samples().to_vec();
+                    prepare();
+                    own();
+                    assert!(want == plane.borrow().samples(), "the samples differ: {name}");
+                    let t = measure(rounds, count, prepare, &mut [&mut theirs, &mut own]);
+                    println!("| {name} | {:.1} | {:.1} | {:.2} |", t[0], t[1], t[1] / t[0]);
+                }
             }
         }
     }
 }
 
 fn main() {
-    let rounds = std::env::args().nth(1).and_then(|a| a.parse().ok()).unwrap_or(60);
-    driver(rounds);
+    let mut args = std::env::args().skip(1);
+    let rounds = args.next().and_then(|a| a.parse().ok()).unwrap_or(60);
+    let only = args.next().unwrap_or_default();
+    driver(rounds, &only);
+    rebuild(rounds, &only);
 }
