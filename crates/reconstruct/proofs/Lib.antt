@@ -1,5 +1,6 @@
 pub mod Sizes
 pub mod Bound
 pub mod Above
+pub mod Sixteen
 pub mod Residual
 pub mod Table

@@ -35,10 +35,11 @@ use Rattle.blocks.specs.Inverse.{apply, rowPass, columnPass, bits, rounding, in
 use Rattle.blocks.proofs.Places.{in-row, in-column, by-place}
 use Rattle.blocks.proofs.Lines.{line-same, zeros-at}
 use Rattle.blocks.proofs.Live.{dead-at}
-use Rattle.blocks.proofs.Blocks.{block-ext, rows-length, rows-at, anew-at}
+use Rattle.blocks.proofs.Blocks.{block-ext, rows-at, anew-length, anew-at, anew-past}
 use Rattle.blocks.proofs.Inverse.{inverse2d-length, inverse2d-at, inverse2d-past, inverse2d-within, dc-only}
 use Rattle.idct.proofs.Answers.{any-type}
 use Rattle.reconstruct.specs.Reconstruct.{side, area, badQuantizers, Accepted, onlyFirst, residual, added}
+use Rattle.reconstruct.proofs.Sixteen.{below-sixteen, few-length, few-at}
 use Rattle.reconstruct.proofs.Sizes.{by-size, area-most, side-most, place-fine}
 
 -- ---- lists that agree in the block have the same residual there
@@ -62,6 +63,31 @@ module _ (n kind : ℕ) (lossless : Bool) (s t : List ℤ) (room : 2 ^ n * 2 ^ n
       (line-same j (2 ^ n) (2 ^ n) (rows R (2 ^ n) s) (rows R (2 ^ n) t)
       (λ k l. rw (NatL.add-comm j (k * 2 ^ n)) (same-rows k j l hj)))
       ∙ sym (inverse2d-at n kind lossless t wide i j hi hj)
+
+-- 4 by 4: the residual of the sixteen numbers by themselves, put back
+pub by-front : (kind : ℕ) (lossless : Bool) (block : List ℤ) → length block ≡ 1024
+    → fill 16 (λ k. getD (inverse2d 2 kind lossless (tabulate (λ k. getD block k (pos 0)) 16)) k (pos 0)) block ≡ inverse2d 2 kind lossless block
+by-front kind lossless block h =
+    let f = tabulate (λ k. getD block k (pos 0)) 16 in
+    let g : ℕ → ℤ = λ k. getD (inverse2d 2 kind lossless f) k (pos 0) in
+    block-ext 4 (fill 16 g block) (inverse2d 2 kind lossless block) (length-fill 16 g block ∙ sym (inverse2d-length 2 kind lossless block))
+    (λ i j hi hj. fill-below (pos 0) 16 g block (i * 4 + j) (below-sixteen i j hi hj) (omega (arith, below-sixteen i j hi hj))
+    ∙ same-block 2 kind lossless f block (omega (arith, few-length block)) (omega arith) (few-at block) i j hi hj)
+    (λ p q. fill-rest (pos 0) 16 g block p q ∙ sym (inverse2d-past 2 kind lossless block p q))
+
+-- and of place 0 alone: one number sixteen times
+pub by-flat : (block : List ℤ) → length block ≡ 1024 → live 1 15 block ≡ false
+    → fill 16 (λ k. getD (replicate 16 (dcOnly 2 (getD block 0 (pos 0)))) k (pos 0)) block ≡ inverse2d 2 0 false block
+by-flat block h d =
+    let v = dcOnly 2 (getD block 0 (pos 0)) in
+    let g : ℕ → ℤ = λ k. getD (replicate 16 v) k (pos 0) in
+    let f : ℕ → ℕ → ℤ = λ i j. v in
+    block-ext 4 (fill 16 g block) (anew 4 f block) (length-fill 16 g block ∙ sym (anew-length 4 f block))
+    (λ i j hi hj. fill-below (pos 0) 16 g block (i * 4 + j) (below-sixteen i j hi hj) (omega (arith, below-sixteen i j hi hj))
+    ∙ getD-replicate 16 (i * 4 + j) v (pos 0) (below-sixteen i j hi hj)
+    ∙ sym (anew-at 4 f block (omega arith) i j hi hj))
+    (λ p q. fill-rest (pos 0) 16 g block p q ∙ sym (anew-past 4 f block p q))
+    ∙ sym (dc-only 2 (omega arith) (omega arith) block (omega arith) d)
 
 -- a token of 0 has a coefficient of 0
 zero-token : (size : ℕ) (dc : DcQuant) (ac : AcQuant) → badQuantizers dc ac ≡ false → (k : ℕ) → dequant size (quantizerAt dc ac k) (pos 0) ≡ pos 0
@@ -91,7 +117,7 @@ module _ (size : ℕ) (dc : DcQuant) (ac : AcQuant) (kind : ℕ) (lossless : Boo
   pub block-room : area size ≤ length (inFront (area size) size dc ac tokens)
   block-room = rw block-length (area-most size size-most)
 
-  pub all-length : length (dequantAll size dc ac tokens) ≡ area size
+  all-length : length (dequantAll size dc ac tokens) ≡ area size
   unfolding dequantAll
   all-length = length-tabulate _ (length tokens) ∙ a .all
 
@@ -123,73 +149,64 @@ module _ (size : ℕ) (dc : DcQuant) (ac : AcQuant) (kind : ℕ) (lossless : Boo
   residual-at i j hi hj =
       same-block (size + 2) kind lossless (inFront (area size) size dc ac tokens) (dequantAll size dc ac tokens) block-room (rw all-length (NatL.le-refl (area size))) block-at i j hi hj
 
-  -- the list of the coefficients by itself, and its residual
-  pub all-within : FirstWithin (2 ^ 31) (area size) (dequantAll size dc ac tokens)
-  all-within = record { each = λ k h. within-abs (omega (arith, a .coefs k (rw (a .all) h))) }
-
-  pub residual-length : length (residual size dc ac kind lossless tokens) ≡ area size
-  unfolding residual
-  residual-length = inverse2d-length (size + 2) kind lossless (dequantAll size dc ac tokens) ∙ all-length
-
-  pub residual-each : AllWithin (2 ^ 62) (residual size dc ac kind lossless tokens)
-  unfolding residual
-  residual-each = record { each = λ k. go k (decLt k (area size)) }
-    where
-      go : (k : ℕ) → Dec (k < area size) → Within (2 ^ 62) (getD (inverse2d (size + 2) kind lossless (dequantAll size dc ac tokens)) k (pos 0))
-      go k (yes h) = within-le (omega arith) (inverse2d-within (size + 2) kind lossless (dequantAll size dc ac tokens) (a .possible) (rw all-length (NatL.le-refl (area size))) all-within .each k h)
-      go k (no h) =
-          rw (List·getD-eq-default (inverse2d (size + 2) kind lossless (dequantAll size dc ac tokens)) (pos 0) {n = k} (rw (inverse2d-length (size + 2) kind lossless (dequantAll size dc ac tokens), all-length) (omega arith)))
-          within-zero
-
--- the sixteen coefficients of a 4 by 4 block as the code fills them: past `count` the tokens are 0
-pub sixteen-all : (count : ℕ) (dc : DcQuant) (ac : AcQuant) (tokens : List ℤ) → count ≤ 16 → length tokens ≡ 16
-    → ((k : ℕ) → count ≤ k → k < 16 → getD tokens k (pos 0) ≡ pos 0) → badQuantizers dc ac ≡ false
-    → fill count (λ k. dequant 0 (quantizerAt dc ac k) (getD tokens k (pos 0))) (replicate 16 (pos 0)) ≡ dequantAll 0 dc ac tokens
-unfolding dequantAll
-sixteen-all count dc ac tokens h e z q =
-    rw e (ext-getD (pos 0) (fill count f (replicate 16 (pos 0))) (tabulate f 16) (long ∙ sym (length-tabulate f 16)) (λ k l. go k (rw long at l) (decLt k count)))
+-- tokens of 0 at the end of a 4 by 4 block need no product
+pub shorter : (count : ℕ) (dc : DcQuant) (ac : AcQuant) (tokens : List ℤ) → count ≤ 16 → ((k : ℕ) → count ≤ k → k < 16 → getD tokens k (pos 0) ≡ pos 0)
+    → badQuantizers dc ac ≡ false → inFront count 0 dc ac tokens ≡ inFront 16 0 dc ac tokens
+unfolding inFront
+shorter count dc ac tokens h z q =
+    ext-getD (pos 0) (fill count f (replicate 1024 (pos 0))) (fill 16 f (replicate 1024 (pos 0))) (length-fill count f (replicate 1024 (pos 0)) ∙ sym (length-fill 16 f (replicate 1024 (pos 0)))) (λ k l. go k (decLt k count) (decLt k 16))
   where
     f : ℕ → ℤ
     f k = dequant 0 (quantizerAt dc ac k) (getD tokens k (pos 0))
 
-    long : length (fill count f (replicate 16 (pos 0))) ≡ 16
-    long = length-fill count f (replicate 16 (pos 0)) ∙ length-replicate 16 (pos 0)
-
-    go : (k : ℕ) → k < 16 → Dec (k < count) → getD (fill count f (replicate 16 (pos 0))) k (pos 0) ≡ getD (tabulate f 16) k (pos 0)
-    go k l (yes m) = fill-below (pos 0) count f (replicate 16 (pos 0)) k m (rw (length-replicate 16 (pos 0)) l) ∙ sym (getD-tabulate f 16 k (pos 0) l)
-    go k l (no m) =
-        fill-rest (pos 0) count f (replicate 16 (pos 0)) k (omega arith) ∙ zeros-at 16 k
-        ∙ sym (getD-tabulate f 16 k (pos 0) l ∙ rw (z k (omega arith) l) (zero-token 0 dc ac q k))
-
--- ---- 4 by 4, from the coefficients that the code fills in to the residual
-module _ (dc : DcQuant) (ac : AcQuant) (kind : ℕ) (lossless : Bool) (tokens : List ℤ) {few made : List ℤ} (e : few ≡ dequantAll 0 dc ac tokens) where
-  pub as-lossless : lossless ≡ true → made ≡ inverse2d 2 0 true few → made ≡ residual 0 dc ac kind lossless tokens
-  unfolding residual
-  as-lossless l m = m ∙ ap (inverse2d 2 0 true) e ∙ any-type 2 kind (dequantAll 0 dc ac tokens) ∙ rw l
-
-  pub as-lossy : lossless ≡ false → made ≡ inverse2d 2 kind false few → made ≡ residual 0 dc ac kind lossless tokens
-  unfolding residual
-  as-lossy l m = m ∙ ap (inverse2d 2 kind false) e ∙ rw l
-
-module _ (dc : DcQuant) (ac : AcQuant) (kind : ℕ) (lossless : Bool) (tokens : List ℤ) (a : Accepted 0 dc ac kind lossless tokens) where
-  -- what the transforms ask, and what adding back asks
-  pub few-fine : {few : List ℤ} → few ≡ dequantAll 0 dc ac tokens → (16 ≤ length few) × FirstWithin (2 ^ 31) 16 few
-  few-fine e = rw e (rw (all-length 0 dc ac kind lossless tokens a) (NatL.le-refl 16), all-within 0 dc ac kind lossless tokens a)
-
-  pub made-fine : {made : List ℤ} → made ≡ residual 0 dc ac kind lossless tokens → (length made ≡ 16) × AllWithin (2 ^ 62) made
-  made-fine e = rw e (residual-length 0 dc ac kind lossless tokens a, residual-each 0 dc ac kind lossless tokens a)
-
-pub made-added : (p : Plane) (top x y : ℕ) (dc : DcQuant) (ac : AcQuant) (kind : ℕ) (lossless : Bool) (tokens made : List ℤ) (samples : List ℕ) {after : List ℕ}
-    → made ≡ residual 0 dc ac kind lossless tokens → after ≡ planeAfter p top x y 4 (λ i j. getD made (i * 4 + j) (pos 0)) samples
-    → after ≡ added p top x y 0 dc ac kind lossless tokens samples
-unfolding added
-made-added p top x y dc ac kind lossless tokens made samples e h = h ∙ ap (λ (l : List ℤ). planeAfter p top x y 4 (λ i j. getD l (i * 4 + j) (pos 0)) samples) e
+    go : (k : ℕ) → Dec (k < count) → Dec (k < 16) → getD (fill count f (replicate 1024 (pos 0))) k (pos 0) ≡ getD (fill 16 f (replicate 1024 (pos 0))) k (pos 0)
+    go k (yes m) l =
+        fill-below (pos 0) count f (replicate 1024 (pos 0)) k m (rw (length-replicate 1024 (pos 0)) (omega arith))
+        ∙ sym (fill-below (pos 0) 16 f (replicate 1024 (pos 0)) k (omega arith) (rw (length-replicate 1024 (pos 0)) (omega arith)))
+    go k (no m) (yes l) =
+        fill-rest (pos 0) count f (replicate 1024 (pos 0)) k (omega arith) ∙ zeros-at 1024 k
+        ∙ sym (fill-below (pos 0) 16 f (replicate 1024 (pos 0)) k l (rw (length-replicate 1024 (pos 0)) (omega arith)) ∙ rw (z k (omega arith) l) (zero-token 0 dc ac q k))
+    go k (no m) (no l) = fill-rest (pos 0) count f (replicate 1024 (pos 0)) k (omega arith) ∙ sym (fill-rest (pos 0) 16 f (replicate 1024 (pos 0)) k (omega arith))
 
 -- ---- place 0 alone
 pub none-live : (p : ℕ → Bool) (n : ℕ) → ((k : ℕ) → k < n → p k ≡ false) → anyBelow p n ≡ false
 unfolding anyBelow
 none-live p zero e = refl
 none-live p (suc n) e = rw (e n (omega arith)) (none-live p n (λ k l. e k (omega arith)))
+
+-- ---- 4 by 4, from the tokens to the residual in a block z of zeros
+module _ (dc : DcQuant) (ac : AcQuant) (kind : ℕ) (lossless : Bool) (tokens : List ℤ) (a : Accepted 0 dc ac kind lossless tokens) (z : List ℤ) (e : z ≡ replicate 1024 (pos 0))
+  where
+    -- the coefficients, by a count that leaves out tokens of 0 at the end
+    pub filled : (count : ℕ) → count ≤ 16 → ((k : ℕ) → count ≤ k → k < 16 → getD tokens k (pos 0) ≡ pos 0) → {block : List ℤ}
+        → block ≡ fill count (λ k. dequant 0 (quantizerAt dc ac k) (getD tokens k (pos 0))) z → block ≡ inFront 16 0 dc ac tokens
+    filled count h d {block} f = in-front count 0 dc ac tokens z block e f ∙ shorter count dc ac tokens h d (a .quantizers)
+
+    pub filled-fine : {block : List ℤ} → block ≡ inFront 16 0 dc ac tokens → (length block ≡ 1024) × FirstWithin (2 ^ 31) 16 block
+    filled-fine f = rw f (block-length 0 dc ac kind lossless tokens a, block-within 0 dc ac kind lossless tokens a)
+
+    -- where only place 0 of the tokens is live, so it is of the coefficients
+    pub filled-dead : {block : List ℤ} → block ≡ inFront 16 0 dc ac tokens → live 1 15 tokens ≡ false → live 1 15 block ≡ false
+    unfolding live inFront
+    filled-dead f d =
+        rw f
+        (none-live _ 15
+        (λ k l. rw (fill-below (pos 0) 16 (λ k. dequant 0 (quantizerAt dc ac k) (getD tokens k (pos 0))) (replicate 1024 (pos 0)) (1 + k) (omega arith) (rw (length-replicate 1024 (pos 0)) (omega arith)), dead-at 1 15 tokens d k l, zero-token 0 dc ac (a .quantizers) (1 + k))))
+
+    -- and the residual is that of the sixteen coefficients
+    pub made : (type : ℕ) (whole : Bool) {block after : List ℤ} → block ≡ inFront 16 0 dc ac tokens → after ≡ inverse2d 2 type whole block
+        → ((s : List ℤ) → inverse2d 2 type whole s ≡ inverse2d 2 kind lossless s)
+        → after ≡ inverse2d 2 kind lossless (fill 16 (λ k. dequant 0 (quantizerAt dc ac k) (getD tokens k (pos 0))) z)
+    unfolding inFront
+    made type whole f m t =
+        m ∙ t _ ∙ ap (inverse2d 2 kind lossless) (f ∙ ap (fill 16 (λ k. dequant 0 (quantizerAt dc ac k) (getD tokens k (pos 0)))) (sym e))
+
+-- the type is not looked at when lossless
+pub as-lossless : (kind : ℕ) (lossless : Bool) → lossless ≡ true → (s : List ℤ) → inverse2d 2 0 true s ≡ inverse2d 2 kind lossless s
+as-lossless kind lossless l s = any-type 2 kind s ∙ rw l
+
+pub as-lossy : (type kind : ℕ) (lossless : Bool) → kind ≡ type → lossless ≡ false → (s : List ℤ) → inverse2d 2 type false s ≡ inverse2d 2 kind lossless s
+as-lossy type kind lossless t l s = rw (t, l)
 
 module _ (size : ℕ) (dc : DcQuant) (ac : AcQuant) (tokens : List ℤ) (a : Accepted size dc ac 0 false tokens) (dead : live 1 (length tokens - 1) tokens ≡ false) where
   -- number k of the coefficients
@@ -240,7 +257,7 @@ row-within n v b = record { each = λ k. go k (decLt k n) }
 pub some-token : (size : ℕ) → 1 ≤ area size
 some-token size = NatL.mul-pos (pow-pos (size + 2)) (pow-pos (size + 2))
 
-only-first-is : (kind : ℕ) (tokens : List ℤ) → onlyFirst kind tokens ≡ true → (kind ≡ 0) × (live 1 (length tokens - 1) tokens ≡ false)
+pub only-first-is : (kind : ℕ) (tokens : List ℤ) → onlyFirst kind tokens ≡ true → (kind ≡ 0) × (live 1 (length tokens - 1) tokens ≡ false)
 unfolding onlyFirst
 only-first-is kind tokens h = go (eqb kind 0) (live 1 (length tokens - 1) tokens) refl refl
   where

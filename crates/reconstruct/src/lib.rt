@@ -19,16 +19,17 @@ ghost use Prim.Native.Nat.{ℕ, _+_, _-_, _*_, _^_, _≤_, _<_};
 ghost use lib.Dec.{eqb};
 ghost use lib.IntN.{pos, natAbs};
 ghost use lib.ListN.{length, getD, replicate};
-ghost use Rattle.whole.specs.Lists.{fill};
+ghost use Rattle.whole.specs.Lists.{tabulate, fill};
 ghost use Rattle.whole.specs.Within.{AllWithin};
 ghost use Rattle.answers.specs.Answers.{number};
 ghost use Rattle.answers.specs.Bad.{badDepth, badQuantizer};
 ghost use Rattle.answers.specs.Limits.{COEF_LIMIT, codeable};
-ghost use Rattle.quant.specs.Places.{quantizerAt, dequantAll};
+ghost use Rattle.quant.specs.Places.{quantizerAt};
 ghost use Rattle.quant.specs.Token.{dqDenom, dequant};
 ghost use Rattle.plane.specs.Place.{SamplesOf};
 ghost use Rattle.plane.specs.Plane.{planeAfter};
-ghost use Rattle.blocks.specs.Inverse.{dcOnly};
+ghost use Rattle.blocks.specs.Block.{live, FirstWithin};
+ghost use Rattle.blocks.specs.Inverse.{inverse2d, dcOnly};
 ghost use Rattle.reconstruct.specs.Bound.{Bounds, SmallTokens, anyAbove};
 ghost use Rattle.reconstruct.specs.Reconstruct.{side, largest, badQuantizers, badPlane, shapeOf, tokenAnswer, Accepted, added, onlyFirst, Reconstructed};
 
@@ -275,37 +276,44 @@ fn dequantize(
     }
 }
 
-// The coefficients of a 4 by 4 block; `count` leaves out tokens at the end that are 0.
-fn coefs4(tokens: &[i64], count: usize, dc_quant: DcQuant, ac_quant: AcQuant) -> [i64; 16]
-    requires { ⌜ (count ≤ 16) × (length (now tokens) ≡ 16) × ((k : ℕ) → count ≤ k → k < 16 → getD (now tokens) k (pos 0) ≡ pos 0) × ((k : ℕ) → k < length (now tokens) → natAbs (getD (now tokens) k (pos 0)) ≤ codeable 12) × (badQuantizers «dc_quant» «ac_quant» ≡ false) ⌝ }
-    ensures { λ r. ⌜ r ≡ dequantAll 0 «dc_quant» «ac_quant» (now (tokens .entry)) ⌝ }
+// The sixteen numbers of a 4 by 4 block by themselves.
+fn front(block: &[i64; 1024]) -> [i64; 16]
+    ensures { λ r. ⌜ r ≡ tabulate (λ k. getD (now (block .entry)) k (pos 0)) 16 ⌝ }
 {
     let mut few = [0i64; 16];
-    for k in 0..count {
-        few[k] = coef_at(k, tokens[k], 0, dc_quant, ac_quant);
+    for k in 0..16usize {
+        few[k] = block[k];
     }
     few
 }
 
-// A 4 by 4 residual into the plane; rows and columns are literals where they can be, for speed.
-fn add_back4(samples: &mut [u16], plane: Plane, x: usize, y: usize, few: &[i64; 16], top: u16)
-    requires { ⌜ SamplesOf plane (now samples) × (length (now few) ≡ 16) × AllWithin (2 ^ 62) (now few) ⌝ }
-    ensures { λ _. ⌜ now (samples .exit) ≡ planeAfter plane top x y 4 (λ i j. getD (now (few .entry)) (i * 4 + j) (pos 0)) (now (samples .entry)) ⌝ }
+// And back into the block.
+fn put_front(block: &mut [i64; 1024], few: &[i64; 16])
+    ensures { λ _. ⌜ now (block .exit) ≡ fill 16 (λ k. getD (now (few .entry)) k (pos 0)) (now (block .entry)) ⌝ }
 {
-    let rows = plane::cut(plane.height, y, 4);
-    let cols = plane::cut(plane.width, x, 4);
-    if rows == 4 {
-        if cols == 4 {
-            plane::add_rows(samples, plane, x, y, few, 4, 4, 4, 4, top);
-            return;
-        }
+    for k in 0..16usize {
+        block[k] = few[k];
     }
-    match cols {
-        1 => plane::add_rows(samples, plane, x, y, few, 4, 4, rows, 1, top),
-        2 => plane::add_rows(samples, plane, x, y, few, 4, 4, rows, 2, top),
-        3 => plane::add_rows(samples, plane, x, y, few, 4, 4, rows, 3, top),
-        _ => plane::add_back(samples, plane, x, y, few, 4, 4, top),
-    }
+}
+
+// The residual of a 4 by 4 block in the place of its coefficients: lossless.
+fn wht4(block: &mut [i64; 1024])
+    requires { ⌜ (length (now block) ≡ 1024) × FirstWithin (2 ^ 31) 16 (now block) ⌝ }
+    ensures { λ _. ⌜ now (block .exit) ≡ inverse2d 2 0 true (now (block .entry)) ⌝ }
+{
+    let mut few = front(block);
+    idct::fast::wht_passes(&mut few);
+    put_front(block, &few);
+}
+
+// The same not lossless.
+fn lossy4(block: &mut [i64; 1024], kind: u8)
+    requires { ⌜ (length (now block) ≡ 1024) × FirstWithin (2 ^ 31) 16 (now block) ⌝ }
+    ensures { λ _. ⌜ now (block .exit) ≡ inverse2d 2 kind false (now (block .entry)) ⌝ }
+{
+    let mut few = front(block);
+    idct::fast::inverse4(&mut few, kind);
+    put_front(block, &few);
 }
 
 fn sixteen_of(v: i64) -> [i64; 16]
@@ -314,8 +322,85 @@ fn sixteen_of(v: i64) -> [i64; 16]
     [v; 16]
 }
 
-// Tokens that are taken, 4 by 4. Four cases to their ends in one function: then the compiler adds all of them back in one place,
-// and leaves out what the zeros of a lossless block would do.
+// The same of type 0 with place 0 alone live: one number everywhere.
+fn flat4(block: &mut [i64; 1024])
+    requires { ⌜ (length (now block) ≡ 1024) × FirstWithin (2 ^ 31) 16 (now block) × (live 1 15 (now block) ≡ false) ⌝ }
+    ensures { λ _. ⌜ now (block .exit) ≡ inverse2d 2 0 false (now (block .entry)) ⌝ }
+{
+    let few = sixteen_of(idct::fast::dc_value(block[0], 2));
+    put_front(block, &few);
+}
+
+// The residual of 4 by 4 tokens that are taken, in a block of zeros. Tokens of 0 at the end need no product, by literal counts: so the
+// block is read and written at literal places only, and its 1,024 numbers cost nothing.
+fn residual4(
+    block: &mut [i64; 1024],
+    tokens: &[i64],
+    dc_quant: DcQuant,
+    ac_quant: AcQuant,
+    kind: u8,
+    lossless: bool,
+)
+    requires { ⌜ (now block ≡ replicate 1024 (pos 0)) × Accepted 0 «dc_quant» «ac_quant» kind lossless (now tokens) ⌝ }
+    ensures { λ _. ⌜ now (block .exit) ≡ inverse2d 2 kind lossless (fill 16 (λ k. dequant 0 (quantizerAt «dc_quant» «ac_quant» k) (getD (now (tokens .entry)) k (pos 0))) (now (block .entry))) ⌝ }
+{
+    if lossless {
+        if any_live(tokens, 8, 8) {
+            dequantize(block, tokens, 16, 0, dc_quant, ac_quant);
+            wht4(block);
+            return;
+        }
+        if any_live(tokens, 4, 4) {
+            dequantize(block, tokens, 8, 0, dc_quant, ac_quant);
+            wht4(block);
+            return;
+        }
+        dequantize(block, tokens, 4, 0, dc_quant, ac_quant);
+        wht4(block);
+        return;
+    }
+    if only_first(tokens, 16, kind) {
+        dequantize(block, tokens, 1, 0, dc_quant, ac_quant);
+        flat4(block);
+        return;
+    }
+    dequantize(block, tokens, 16, 0, dc_quant, ac_quant);
+    lossy4(block, kind);
+}
+
+// Sixteen residuals into the plane, some of them cut off; columns are literals, for speed.
+fn add_cut4(samples: &mut [u16], plane: Plane, x: usize, y: usize, few: &[i64; 16], top: u16)
+    requires { ⌜ SamplesOf plane (now samples) × (length (now few) ≡ 16) × AllWithin (2 ^ 62) (now few) ⌝ }
+    ensures { λ _. ⌜ now (samples .exit) ≡ planeAfter plane top x y 4 (λ i j. getD (now (few .entry)) (i * 4 + j) (pos 0)) (now (samples .entry)) ⌝ }
+{
+    let rows = plane::cut(plane.height, y, 4);
+    let cols = plane::cut(plane.width, x, 4);
+    match cols {
+        1 => plane::add_rows(samples, plane, x, y, few, 4, 4, rows, 1, top),
+        2 => plane::add_rows(samples, plane, x, y, few, 4, 4, rows, 2, top),
+        3 => plane::add_rows(samples, plane, x, y, few, 4, 4, rows, 3, top),
+        _ => plane::add_back(samples, plane, x, y, few, 4, 4, top),
+    }
+}
+
+// A 4 by 4 residual into the plane. A whole block is read at literal places only, a cut one by itself: so the 1,024 cost nothing.
+fn add_back4(samples: &mut [u16], plane: Plane, x: usize, y: usize, block: &[i64; 1024], top: u16)
+    requires { ⌜ SamplesOf plane (now samples) × (length (now block) ≡ 1024) × AllWithin (2 ^ 62) (now block) ⌝ }
+    ensures { λ _. ⌜ now (samples .exit) ≡ planeAfter plane top x y 4 (λ i j. getD (now (block .entry)) (i * 4 + j) (pos 0)) (now (samples .entry)) ⌝ }
+{
+    let rows = plane::cut(plane.height, y, 4);
+    let cols = plane::cut(plane.width, x, 4);
+    if rows == 4 {
+        if cols == 4 {
+            plane::add_rows(samples, plane, x, y, block, 4, 4, 4, 4, top);
+            return;
+        }
+    }
+    let few = front(block);
+    add_cut4(samples, plane, x, y, &few, top);
+}
+
+// Tokens that are taken, 4 by 4.
 fn reconstruct_4(
     samples: &mut [u16],
     plane: Plane,
@@ -331,27 +416,9 @@ fn reconstruct_4(
     requires { ⌜ SamplesOf plane (now samples) × Accepted 0 «dc_quant» «ac_quant» kind lossless (now tokens) ⌝ }
     ensures { λ _. ⌜ now (samples .exit) ≡ added plane top x y 0 «dc_quant» «ac_quant» kind lossless (now (tokens .entry)) (now (samples .entry)) ⌝ }
 {
-    if lossless {
-        if any_live(tokens, 4, 12) {
-            let mut few = coefs4(tokens, 16, dc_quant, ac_quant);
-            idct::fast::wht_passes(&mut few);
-            add_back4(samples, plane, x, y, &few, top);
-            return;
-        }
-        let mut few = coefs4(tokens, 4, dc_quant, ac_quant);
-        idct::fast::wht_passes(&mut few);
-        add_back4(samples, plane, x, y, &few, top);
-        return;
-    }
-    if only_first(tokens, 16, kind) {
-        let coef = dc_quant.dequant(tokens[0], 0);
-        let few = sixteen_of(idct::fast::dc_value(coef, 2));
-        add_back4(samples, plane, x, y, &few, top);
-        return;
-    }
-    let mut few = coefs4(tokens, 16, dc_quant, ac_quant);
-    idct::fast::inverse4(&mut few, kind);
-    add_back4(samples, plane, x, y, &few, top);
+    let mut block = zeros();
+    residual4(&mut block, tokens, dc_quant, ac_quant, kind, lossless);
+    add_back4(samples, plane, x, y, &block, top);
 }
 
 // Tokens that are taken, at any size.
@@ -397,8 +464,9 @@ fn reconstruct_flat(
     requires { ⌜ SamplesOf plane (now samples) × (size ≤ 3) × (badQuantizer («dc_quant» .0) ≡ false) × (natAbs token ≤ codeable 12) × (natAbs (dequant size («dc_quant» .0) token) ≤ COEF_LIMIT) ⌝ }
     ensures { λ _. ⌜ now (samples .exit) ≡ planeAfter plane top x y (side size) (λ i j. dcOnly (size + 2) (dequant size («dc_quant» .0) token)) (now (samples .entry)) ⌝ }
 {
-    let coef = dc_quant.dequant(token, size);
-    let row = row_of(idct::fast::dc_value(coef, size + 2));
+    let mut block = zeros();
+    block[0] = dc_quant.dequant(token, size);
+    let row = row_of(idct::fast::dc_value(block[0], size + 2));
     plane::add_back(samples, plane, x, y, &row, 0, side(size), top);
 }
 

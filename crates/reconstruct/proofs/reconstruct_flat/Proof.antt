@@ -3,7 +3,8 @@ use mathlib.Core.Path.{_≡_, refl, sym, ap, _∙_}
 use Prim.Native.Nat.{ℕ, _+_, _*_, _≤_, _<_}
 use native.Mathlib.Omega.{arith}
 use lib.IntN.{pos}
-use lib.ListN.{length, getD, replicate, length-replicate, getD-replicate}
+use lib.ListN.{length, getD, set, replicate, length-replicate, getD-replicate}
+use lib.Seq.{getD-set-same}
 use mir.Syntax.{w64}
 use mir.ValLaws.{toZ-ofZ}
 use Rattle.whole.proofs.Signed.{rd, rd-ok}
@@ -18,25 +19,33 @@ use Rattle.reconstruct.proofs.Residual.{dcOnly-within, row-within}
 use Rattle.reconstruct.proofs.reconstruct_flat.Statement.{statement}
 use Rattle.reconstruct.proofs.reconstruct_flat.Tie as tie
 
--- the coefficient
-first : (c : tie.After-dequant) → let a = c .before .before .args in rd w64 (c .dequant .result) ≡ dequant (a .size) (a .dc-quant .0) (a .token)
+-- what place 0 of the block holds
+first : (c : tie.After-dequant) → let a = c .before .before .before .args in
+    rd w64 (getD (set (c .before .zeros .result) 0 (rd w64 (c .dequant .result))) 0 (pos 0)) ≡ dequant (a .size) (a .dc-quant .0) (a .token)
 first c =
-    let s = c .before .before in
-    rd-ok w64 {z = c .dequant .result} (c .dequant .ok) ∙ c .dequant .ensures ∙ rw (toZ-ofZ w64 (s .args .token) (s .fits .token))
+    let s = c .before .before .before in
+    let z = c .before .zeros .result in
+    let l : 0 < length z = rw (c .before .zeros .ensures, length-replicate 1024 (pos 0)) (omega arith) in
+    let e = rd-ok w64 {z = c .dequant .result} (c .dequant .ok) in
+    ap (rd w64) (getD-set-same z 0 (rd w64 (c .dequant .result)) (pos 0) l ∙ e) ∙ e ∙ c .dequant .ensures ∙ rw (toZ-ofZ w64 (s .args .token) (s .fits .token))
 
 dc-value-requires : tie.Need-dc-value-requires
-dc-value-requires c κs = let s = c .before .before in rw (first c) (omega arith, omega (arith, s .pre .1), within-abs (omega (arith, s .pre .4)))
+dc-value-requires c κs =
+    let s = c .before .before .before .before in
+    rw (first (c .before)) (omega arith, omega (arith, s .pre .1), within-abs (omega (arith, s .pre .4)))
 
 -- and the one number of the residual
-value : (c : tie.After-dc-value) → let a = c .before .before .before .args in rd w64 (c .dc-value .result) ≡ dcOnly (a .size + 2) (dequant (a .size) (a .dc-quant .0) (a .token))
-value c = rd-ok w64 {z = c .dc-value .result} (c .dc-value .ok) ∙ rw (first (c .before)) at (c .dc-value .ensures)
+value : (c : tie.After-dc-value) → let a = c .before .before .before .before .before .args in
+    rd w64 (c .dc-value .result) ≡ dcOnly (a .size + 2) (dequant (a .size) (a .dc-quant .0) (a .token))
+value c = rd-ok w64 {z = c .dc-value .result} (c .dc-value .ok) ∙ rw (first (c .before .before)) at (c .dc-value .ensures)
 
-row : (c : tie.After-row-of) → let a = c .before .before .before .before .args in c .row-of .result ≡ replicate 32 (dcOnly (a .size + 2) (dequant (a .size) (a .dc-quant .0) (a .token)))
+row : (c : tie.After-row-of) → let a = c .before .before .before .before .before .before .args in
+    c .row-of .result ≡ replicate 32 (dcOnly (a .size + 2) (dequant (a .size) (a .dc-quant .0) (a .token)))
 row c = c .row-of .ensures ∙ ap (replicate 32) (value (c .before))
 
 add-back-requires : tie.Need-add-back-requires
 add-back-requires c κs =
-    let s = c .before .before .before .before .before .before .before in
+    let s = c .before .before .before .before .before .before .before .before .before in
     let a = s .args in
     let v = dcOnly (a .size + 2) (dequant (a .size) (a .dc-quant .0) (a .token)) in
     let h = side-most (a .size) (s .pre .1) in
@@ -50,7 +59,7 @@ add-back-requires c κs =
 
 returns : tie.Need-returns
 returns c =
-    let s = c .before .before .before .before .before .before .before .before .before .before in
+    let s = c .before .before .before .before .before .before .before .before .before .before .before .before in
     let a = s .args in
     let v = dcOnly (a .size + 2) (dequant (a .size) (a .dc-quant .0) (a .token)) in
     let h = side-most (a .size) (s .pre .1) in
@@ -64,6 +73,9 @@ reconstruct-flat-spec =
     tie.close
     (tie.spec
     (λ c κs. search needs)
+    (λ c κs. search needs)
+    (λ c. search needs)
+    (λ c. search needs)
     (λ c. search needs)
     dc-value-requires
     (λ c κs. search needs)

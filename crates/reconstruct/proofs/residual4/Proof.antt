@@ -1,0 +1,201 @@
+-- `reconstruct::residual4` meets its contract.
+use mathlib.Core.Path.{_≡_, refl, sym, _∙_}
+use mathlib.Core.Bool.{true, false}
+use mathlib.Core.List.{List}
+use Prim.Native.Nat.{ℕ, _+_, _-_, _≤_, _<_}
+use native.Mathlib.Decide.{decLt}
+use native.Mathlib.Omega.{arith}
+use lib.IntN.{ℤ, pos}
+use lib.ListN.{length, getD}
+use borrow.Author.Needs.{needs}
+use Rattle.blocks.specs.Block.{live}
+use Rattle.blocks.proofs.Live.{dead-at}
+use Rattle.reconstruct.specs.Reconstruct.{Accepted}
+use Rattle.reconstruct.proofs.Residual.{inFront, filled, filled-fine, filled-dead, made, as-lossless, as-lossy, only-first-is}
+use Rattle.reconstruct.proofs.residual4.Statement.{statement}
+use Rattle.reconstruct.proofs.residual4.Tie as tie
+
+-- what is given
+abbrev taken : (s : tie.Start) → Accepted 0 (s .args .dc-quant) (s .args .ac-quant) (s .args .kind) (s .args .lossless) (s .args .tokens .now)
+taken s = s .pre .1
+
+-- the block with the coefficients of all tokens
+abbrev whole : (s : tie.Start) → List ℤ
+whole s = inFront 16 0 (s .args .dc-quant) (s .args .ac-quant) (s .args .tokens .now)
+
+-- ---- the tokens at the end, where none is live
+dead8 : (c : tie.Else2) → (k : ℕ) → 8 ≤ k → k < 16 → getD (c .before .before .before .args .tokens .now) k (pos 0) ≡ pos 0
+dead8 c k h l =
+    let e : 8 + (k - 8) ≡ k = omega arith in
+    rw e at (dead-at 8 8 (c .before .before .before .args .tokens .now) (sym (c .before .any-live .ensures) ∙ c .if2 .left) (k - 8) (omega arith))
+
+dead4 : (c : tie.Else3) → (k : ℕ) → 4 ≤ k → k < 16 → getD (c .before .before .before .before .before .args .tokens .now) k (pos 0) ≡ pos 0
+dead4 c k h l = go (decLt k 8)
+  where
+    go : Dec (k < 8) → getD (c .before .before .before .before .before .args .tokens .now) k (pos 0) ≡ pos 0
+    go (yes m) =
+        let e : 4 + (k - 4) ≡ k = omega arith in
+        rw e at (dead-at 4 4 (c .before .before .before .before .before .args .tokens .now) (sym (c .before .any-live2 .ensures) ∙ c .if3 .left) (k - 4) (omega arith))
+    go (no m) = dead8 (c .before .before) k (omega arith) l
+
+-- place 0 alone, and type 0
+only : (c : tie.Then4) → let a = c .before .before .before .args in (a .kind ≡ 0) × (live 1 15 (a .tokens .now) ≡ false)
+only c =
+    let s = c .before .before .before in
+    let p = only-first-is (s .args .kind) (s .args .tokens .now) (sym (c .before .only-first .ensures) ∙ c .if4 .taken) in
+    (p .0, rw (taken s .all) at (p .1))
+
+dead1 : (c : tie.Then4) → (k : ℕ) → 1 ≤ k → k < 16 → getD (c .before .before .before .args .tokens .now) k (pos 0) ≡ pos 0
+dead1 c k h l =
+    let e : 1 + (k - 1) ≡ k = omega arith in
+    rw e at (dead-at 1 15 (c .before .before .before .args .tokens .now) (only c .1) (k - 1) (omega arith))
+
+-- ---- the coefficients
+block1 : (c : tie.After-dequantize) → c .dequantize .last .0 ≡ whole (c .before .before .before .before .before)
+block1 c =
+    let s = c .before .before .before .before .before in
+    let a = s .args in
+    filled (a .dc-quant) (a .ac-quant) (a .kind) (a .lossless) (a .tokens .now) (taken s) (a .block .now) (s .pre .0) 16 (omega arith) (λ k h l. absurd (omega arith)) (c .dequantize .ensures)
+
+block2 : (c : tie.After-dequantize2) → c .dequantize2 .last .0 ≡ whole (c .before .before .before .before .before .before .before)
+block2 c =
+    let s = c .before .before .before .before .before .before .before in
+    let a = s .args in
+    filled (a .dc-quant) (a .ac-quant) (a .kind) (a .lossless) (a .tokens .now) (taken s) (a .block .now) (s .pre .0) 8 (omega arith) (dead8 (c .before .before .before .before)) (c .dequantize2 .ensures)
+
+block3 : (c : tie.After-dequantize3) → c .dequantize3 .last .0 ≡ whole (c .before .before .before .before .before .before .before)
+block3 c =
+    let s = c .before .before .before .before .before .before .before in
+    let a = s .args in
+    filled (a .dc-quant) (a .ac-quant) (a .kind) (a .lossless) (a .tokens .now) (taken s) (a .block .now) (s .pre .0) 4 (omega arith) (dead4 (c .before .before)) (c .dequantize3 .ensures)
+
+block4 : (c : tie.After-dequantize4) → c .dequantize4 .last .0 ≡ whole (c .before .before .before .before .before)
+block4 c =
+    let s = c .before .before .before .before .before in
+    let a = s .args in
+    filled (a .dc-quant) (a .ac-quant) (a .kind) (a .lossless) (a .tokens .now) (taken s) (a .block .now) (s .pre .0) 1 (omega arith) (dead1 (c .before .before)) (c .dequantize4 .ensures)
+
+block5 : (c : tie.After-dequantize5) → c .dequantize5 .last .0 ≡ whole (c .before .before .before .before .before)
+block5 c =
+    let s = c .before .before .before .before .before in
+    let a = s .args in
+    filled (a .dc-quant) (a .ac-quant) (a .kind) (a .lossless) (a .tokens .now) (taken s) (a .block .now) (s .pre .0) 16 (omega arith) (λ k h l. absurd (omega arith)) (c .dequantize5 .ensures)
+
+-- ---- the needs
+dequantize-requires : tie.Need-dequantize-requires
+dequantize-requires c κs =
+    let t = taken (c .before .before .before .before) in
+    (omega arith, omega (arith, t .all), λ k h. t .codeables k (omega (arith, t .all)), t .quantizers)
+
+wht4-requires : tie.Need-wht4-requires
+wht4-requires c κs =
+    let s = c .before .before .before .before .before .before in
+    let a = s .args in
+    filled-fine (a .dc-quant) (a .ac-quant) (a .kind) (a .lossless) (a .tokens .now) (taken s) (a .block .now) (s .pre .0) (block1 (c .before))
+
+returns : tie.Need-returns
+returns c =
+    let s = c .before .before .before .before .before .before .before in
+    let a = s .args in
+    made (a .dc-quant) (a .ac-quant) (a .kind) (a .lossless) (a .tokens .now) (taken s) (a .block .now) (s .pre .0) 0 true (block1 (c .before .before)) (c .wht4 .ensures)
+    (as-lossless (a .kind) (a .lossless) (c .before .before .before .before .before .before .if1 .taken))
+
+dequantize-requires-2 : tie.Need-dequantize-requires-2
+dequantize-requires-2 c κs =
+    let t = taken (c .before .before .before .before .before .before) in
+    (omega arith, omega (arith, t .all), λ k h. t .codeables k (omega (arith, t .all)), t .quantizers)
+
+wht4-requires-2 : tie.Need-wht4-requires-2
+wht4-requires-2 c κs =
+    let s = c .before .before .before .before .before .before .before .before in
+    let a = s .args in
+    filled-fine (a .dc-quant) (a .ac-quant) (a .kind) (a .lossless) (a .tokens .now) (taken s) (a .block .now) (s .pre .0) (block2 (c .before))
+
+returns-2 : tie.Need-returns-2
+returns-2 c =
+    let s = c .before .before .before .before .before .before .before .before .before in
+    let a = s .args in
+    made (a .dc-quant) (a .ac-quant) (a .kind) (a .lossless) (a .tokens .now) (taken s) (a .block .now) (s .pre .0) 0 true (block2 (c .before .before)) (c .wht42 .ensures)
+    (as-lossless (a .kind) (a .lossless) (c .before .before .before .before .before .before .before .before .if1 .taken))
+
+dequantize-requires-3 : tie.Need-dequantize-requires-3
+dequantize-requires-3 c κs =
+    let t = taken (c .before .before .before .before .before .before) in
+    (omega arith, omega (arith, t .all), λ k h. t .codeables k (omega (arith, t .all)), t .quantizers)
+
+wht4-requires-3 : tie.Need-wht4-requires-3
+wht4-requires-3 c κs =
+    let s = c .before .before .before .before .before .before .before .before in
+    let a = s .args in
+    filled-fine (a .dc-quant) (a .ac-quant) (a .kind) (a .lossless) (a .tokens .now) (taken s) (a .block .now) (s .pre .0) (block3 (c .before))
+
+returns-3 : tie.Need-returns-3
+returns-3 c =
+    let s = c .before .before .before .before .before .before .before .before .before in
+    let a = s .args in
+    made (a .dc-quant) (a .ac-quant) (a .kind) (a .lossless) (a .tokens .now) (taken s) (a .block .now) (s .pre .0) 0 true (block3 (c .before .before)) (c .wht43 .ensures)
+    (as-lossless (a .kind) (a .lossless) (c .before .before .before .before .before .before .before .before .if1 .taken))
+
+dequantize-requires-4 : tie.Need-dequantize-requires-4
+dequantize-requires-4 c κs =
+    let t = taken (c .before .before .before .before) in
+    (omega arith, omega (arith, t .all), λ k h. t .codeables k (omega (arith, t .all)), t .quantizers)
+
+flat4-requires : tie.Need-flat4-requires
+flat4-requires c κs =
+    let s = c .before .before .before .before .before .before in
+    let a = s .args in
+    let b = block4 (c .before) in
+    let f = filled-fine (a .dc-quant) (a .ac-quant) (a .kind) (a .lossless) (a .tokens .now) (taken s) (a .block .now) (s .pre .0) b in
+    (f .0, f .1, filled-dead (a .dc-quant) (a .ac-quant) (a .kind) (a .lossless) (a .tokens .now) (taken s) (a .block .now) (s .pre .0) b (only (c .before .before .before) .1))
+
+returns-4 : tie.Need-returns-4
+returns-4 c =
+    let s = c .before .before .before .before .before .before .before in
+    let a = s .args in
+    made (a .dc-quant) (a .ac-quant) (a .kind) (a .lossless) (a .tokens .now) (taken s) (a .block .now) (s .pre .0) 0 false (block4 (c .before .before)) (c .flat4 .ensures)
+    (as-lossy 0 (a .kind) (a .lossless) (only (c .before .before .before .before) .0) (c .before .before .before .before .before .before .if1 .left))
+
+dequantize-requires-5 : tie.Need-dequantize-requires-5
+dequantize-requires-5 c κs =
+    let t = taken (c .before .before .before .before) in
+    (omega arith, omega (arith, t .all), λ k h. t .codeables k (omega (arith, t .all)), t .quantizers)
+
+lossy4-requires : tie.Need-lossy4-requires
+lossy4-requires c κs =
+    let s = c .before .before .before .before .before .before in
+    let a = s .args in
+    filled-fine (a .dc-quant) (a .ac-quant) (a .kind) (a .lossless) (a .tokens .now) (taken s) (a .block .now) (s .pre .0) (block5 (c .before))
+
+returns-5 : tie.Need-returns-5
+returns-5 c =
+    let s = c .before .before .before .before .before .before .before in
+    let a = s .args in
+    made (a .dc-quant) (a .ac-quant) (a .kind) (a .lossless) (a .tokens .now) (taken s) (a .block .now) (s .pre .0) (a .kind) false (block5 (c .before .before)) (c .lossy4 .ensures)
+    (as-lossy (a .kind) (a .kind) (a .lossless) refl (c .before .before .before .before .before .before .if1 .left))
+
+only-first-requires : tie.Need-only-first-requires
+only-first-requires c κs = (omega arith, taken (c .before) .all)
+
+pub residual4-spec : {M : Type 1} → statement M
+residual4-spec =
+    tie.close
+    (tie.spec
+    (λ c κs. search needs)
+    dequantize-requires
+    wht4-requires
+    returns
+    (λ c κs. search needs)
+    dequantize-requires-2
+    wht4-requires-2
+    returns-2
+    dequantize-requires-3
+    wht4-requires-3
+    returns-3
+    only-first-requires
+    dequantize-requires-4
+    flat4-requires
+    returns-4
+    dequantize-requires-5
+    lossy4-requires
+    returns-5)

@@ -1,0 +1,24 @@
+-- `reconstruct::wht4` meets its contract.
+use mathlib.Core.Path.{_≡_, _∙_}
+use mathlib.Core.Bool.{true, false}
+use native.Mathlib.Omega.{arith}
+use borrow.Author.Needs.{needs}
+use Rattle.reconstruct.proofs.Sixteen.{few-length, few-first}
+use Rattle.reconstruct.proofs.Residual.{by-front}
+use Rattle.reconstruct.proofs.wht4.Statement.{statement}
+use Rattle.reconstruct.proofs.wht4.Tie as tie
+
+wht-passes-requires : tie.Need-wht-passes-requires
+wht-passes-requires c κs =
+    let s = c .before .before .before in
+    let b = s .args .block .now in
+    rw (c .before .front .ensures) (omega (arith, few-length b), few-first b (s .pre .1))
+
+returns : tie.Need-returns
+returns c =
+    let s = c .before .before .before .before .before .before .before .before in
+    let e = rw (c .before .before .before .before .before .before .front .ensures) at (c .before .before .before .before .wht-passes .ensures) in
+    c .put-front .ensures ∙ rw e (by-front 0 true (s .args .block .now) (s .pre .0))
+
+pub wht4-spec : {M : Type 1} → statement M
+wht4-spec = tie.close (tie.spec (λ c κs. search needs) (λ c. search needs) wht-passes-requires (λ c κs. search needs) returns)
