@@ -10,10 +10,10 @@ ghost use lib.ListN.{length, drop};
 ghost use Rattle.answers.specs.Limits.{codeable};
 ghost use Rattle.idct.specs.Driver.{answerOf, blockAfter};
 ghost use Rattle.reconstruct.specs.Reconstruct.{answerOf as reconstructAnswer, samplesAfter};
-ghost use Rattle.fwd_transform.specs.ForwardWht.{whtAnswer};
-ghost use Rattle.fwd_transform.specs.Quantize.{answerOf as quantizeAnswer};
+ghost use Rattle.fwd_transform.specs.ForwardWht.{whtAnswer, whtAfter};
+ghost use Rattle.fwd_transform.specs.Quantize.{answerOf as quantizeAnswer, coefsAfter};
 ghost use Rattle.vbk.specs.Promises.{Printed};
-ghost use Rattle.exports.specs.Told.{Told, whtAfter, coefsAfter};
+ghost use Rattle.exports.specs.Told.{Told};
 ghost use Rattle.exports.specs.Run.{FIGURES, RunTold};
 
 // Numbers that a run tells of itself: depth, width, height, records read, touched count.

@@ -21,7 +21,11 @@ forwardWht block = rows (wht 0) 4 (columns (wht 0) (λ z. z) 4 block)
 unfoldable pub whtAnswer : List ℤ → ℕ
 whtAnswer block = lowest ((6, not (eqb (length block) 16)) ∷ (9, anyBeyond WHT_LIMIT (length block) block) ∷ [])
 
+-- the block afterwards: as it was under a refusal
+abbrev pub whtAfter : List ℤ → List ℤ
+whtAfter block = cond (eqb (whtAnswer block) 0) (forwardWht block) block
+
 -- the promise: the answer, and the block afterwards, which a refusal leaves as it was
 pub record Forwarded (block : List ℤ) (answer : Answer) (after : List ℤ) : Type 0 where
   pub answered : number answer ≡ whtAnswer block
-  pub written : after ≡ cond (eqb (whtAnswer block) 0) (forwardWht block) block
+  pub written : after ≡ whtAfter block

@@ -43,7 +43,11 @@ tokenAt u k = quantize (u .size) (codeable (u .depth)) (quantizerAt (u .dc) (u .
 unfoldable pub tokensOf : Input → List ℤ
 tokensOf u = tabulate (tokenAt u) (length (u .coefs))
 
+-- the list afterwards: as it was under a refusal
+abbrev pub coefsAfter : Input → List ℤ
+coefsAfter u = cond (eqb (answerOf u) 0) (tokensOf u) (u .coefs)
+
 -- the promise: the answer, and the list afterwards, which a refusal leaves as it was
 pub record Quantized (u : Input) (answer : Answer) (after : List ℤ) : Type 0 where
   pub answered : number answer ≡ answerOf u
-  pub written : after ≡ cond (eqb (answerOf u) 0) (tokensOf u) (u .coefs)
+  pub written : after ≡ coefsAfter u

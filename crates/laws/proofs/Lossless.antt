@@ -33,7 +33,7 @@ use Rattle.fwd_transform.specs.ForwardWht.{forwardWht, whtAnswer, Forwarded}
 use Rattle.fwd_transform.proofs.Wht as F
 use Rattle.plane.specs.declared.Plane.{Plane}
 use Rattle.plane.specs.Place.{rowOf, columnOf, areaOf, cut, SamplesOf}
-use Rattle.plane.specs.Plane.{clip, inside, blockAfter, planeAfter}
+use Rattle.plane.specs.Plane.{clip, inside, sampleAfter, planeAfter}
 use Rattle.plane.proofs.Row.{inside-yes, inside-is}
 use Rattle.plane.proofs.Block.{after-length, after-at, row-of, column-of, place-of, column-in, row-in-plane, off-rows, off-columns, on-block}
 use Rattle.reconstruct.specs.Reconstruct.{largest, badQuantizers, badPlane, badCoefficient, answerOf, residual, added, samplesAfter, Reconstructed}
@@ -220,7 +220,7 @@ module _ (c : Coded) (l : Lossless c) where
 
       by-tests : (a b : Bool) → inside (c .y) (rowsOf c) (rowOf (c .plane) k) ≡ a → inside (c .x) (colsOf c) (columnOf (c .plane) k) ≡ b
           → k < length (c .samples)
-          → blockAfter (largest (c .depth)) (at c) (c .x) (c .y) (rowsOf c) (colsOf c) (c .samples) (rowOf (c .plane) k) (columnOf (c .plane) k) k
+          → sampleAfter (largest (c .depth)) (at c) (c .x) (c .y) (rowsOf c) (colsOf c) (c .samples) (rowOf (c .plane) k) (columnOf (c .plane) k) k
           ≡ getD (c .samples) k 0
       by-tests true true a b q = absurd (never q a b)
       by-tests false t a b q =

@@ -9,7 +9,7 @@ use Rattle.whole.specs.Lists.{tabulate}
 use Rattle.answers.specs.Bad.{badDepth}
 use Rattle.quant.specs.Places.{quantizerAt, dequantAll}
 use Rattle.quant.specs.Token.{dequant}
-use Rattle.plane.specs.Plane.{inside, blockAfter, planeAfter}
+use Rattle.plane.specs.Plane.{inside, sampleAfter, planeAfter}
 use Rattle.laws.specs.Lossless.{Coded, placeIn, Lossless, differencesOf, shownByNothing}
 use Rattle.laws.proofs.Lossless.{codeable-source}
 
@@ -38,7 +38,7 @@ unfolding smallest badDepth
 coded = codeable-source smallest refl (record { wide = omega arith; high = omega arith; all = refl }) refl refl (λ i j h. omega arith) (λ i j h. dark (placeIn smallest i j)) refl
 
 four : getD (shownByNothing smallest) (placeIn smallest 0 0) 0 ≡ 4
-unfolding smallest shownByNothing planeAfter blockAfter inside dequantAll quantizerAt dequant differencesOf tabulate
+unfolding smallest shownByNothing planeAfter sampleAfter inside dequantAll quantizerAt dequant differencesOf tabulate
 four = refl
 
 pub do-nothing-fails : (c : Coded) × Lossless c × (getD (shownByNothing c) (placeIn c 0 0) 0 ≡ c .source 0 0 → ⊥)

@@ -12,7 +12,7 @@ use lib.ListN.{length, getD}
 use Rattle.whole.proofs.Lists.{length-tabulate, getD-tabulate, tabulate-is, tabulate-same}
 use Rattle.plane.specs.declared.Plane.{Plane}
 use Rattle.plane.specs.Place.{placeOf, rowOf, columnOf, areaOf, cut, SamplesOf}
-use Rattle.plane.specs.Plane.{clip, inside, rowAfter, blockAfter, planeAfter}
+use Rattle.plane.specs.Plane.{clip, inside, rowAfter, sampleAfter, planeAfter}
 use Rattle.plane.proofs.Row.{inside-yes, inside-low, inside-high, inside-is, row-in, row-out}
 
 and-false : (b : Bool) → b && false ≡ false
@@ -21,21 +21,21 @@ and-false false = refl
 
 module _ (top : ℕ) (r : ℕ → ℕ → ℤ) (x y : ℕ) (samples : List ℕ) where
   -- outside the rows or the columns a sample stays
-  pub off-rows : (rows cols row column k : ℕ) → inside y rows row ≡ false → blockAfter top r x y rows cols samples row column k ≡ getD samples k 0
-  unfolding blockAfter
+  pub off-rows : (rows cols row column k : ℕ) → inside y rows row ≡ false → sampleAfter top r x y rows cols samples row column k ≡ getD samples k 0
+  unfolding sampleAfter
   off-rows rows cols row column k h = rw h
 
   pub off-columns : (rows cols row column k : ℕ) → inside x cols column ≡ false
-      → blockAfter top r x y rows cols samples row column k ≡ getD samples k 0
-  unfolding blockAfter
+      → sampleAfter top r x y rows cols samples row column k ≡ getD samples k 0
+  unfolding sampleAfter
   off-columns rows cols row column k h = rw (h, and-false (inside y rows row))
 
   pub on-block : (rows cols row column k : ℕ) → inside y rows row ≡ true → inside x cols column ≡ true
-      → blockAfter top r x y rows cols samples row column k ≡ clip top (pos (getD samples k 0) +ℤ r (row - y) (column - x))
-  unfolding blockAfter
+      → sampleAfter top r x y rows cols samples row column k ≡ clip top (pos (getD samples k 0) +ℤ r (row - y) (column - x))
+  unfolding sampleAfter
   on-block rows cols row column k h l = rw (h, l)
 
-  pub block-none : (cols row column k : ℕ) → getD samples k 0 ≡ blockAfter top r x y 0 cols samples row column k
+  pub block-none : (cols row column k : ℕ) → getD samples k 0 ≡ sampleAfter top r x y 0 cols samples row column k
   block-none cols row column k = sym (off-rows 0 cols row column k (go (decLt row y)))
     where
       go : Dec (row < y) → inside y 0 row ≡ false
@@ -44,8 +44,8 @@ module _ (top : ℕ) (r : ℕ → ℕ → ℤ) (x y : ℕ) (samples : List ℕ) 
 
   -- a row more changes no other row
   other-row : (i cols row column k : ℕ) → (row ≡ y + i → ⊥)
-      → blockAfter top r x y i cols samples row column k ≡ blockAfter top r x y (i + 1) cols samples row column k
-  unfolding blockAfter
+      → sampleAfter top r x y i cols samples row column k ≡ sampleAfter top r x y (i + 1) cols samples row column k
+  unfolding sampleAfter
   other-row i cols row column k ne = rw (same (decLt row y) (decLt row (y + i)))
     where
       same : Dec (row < y) → Dec (row < y + i) → inside y i row ≡ inside y (i + 1) row
@@ -54,18 +54,18 @@ module _ (top : ℕ) (r : ℕ → ℕ → ℤ) (x y : ℕ) (samples : List ℕ) 
       same (no h) (no l) = inside-high y i row (omega arith) ∙ sym (inside-high y (i + 1) row (omega arith))
 
   module _ (p : Plane) (cols i : ℕ) (fit : x + cols ≤ p .width) (cur next : List ℕ)
-      (had : (row column : ℕ) → column < p .width → getD cur (placeOf p row column) 0 ≡ blockAfter top r x y i cols samples row column (placeOf p row column))
+      (had : (row column : ℕ) → column < p .width → getD cur (placeOf p row column) 0 ≡ sampleAfter top r x y i cols samples row column (placeOf p row column))
       (new : (k : ℕ) → getD next k 0 ≡ rowAfter top (r i) (placeOf p (y + i) x) cols cur k) where
     -- the row that is written
     here : (column : ℕ) → column < p .width
-        → getD next (placeOf p (y + i) column) 0 ≡ blockAfter top r x y (i + 1) cols samples (y + i) column (placeOf p (y + i) column)
+        → getD next (placeOf p (y + i) column) 0 ≡ sampleAfter top r x y (i + 1) cols samples (y + i) column (placeOf p (y + i) column)
     here column l = go (decLt column x) (decLt column (x + cols))
       where
         old : getD cur (placeOf p (y + i) column) 0 ≡ getD samples (placeOf p (y + i) column) 0
         old = had (y + i) column l ∙ off-rows i cols (y + i) column (placeOf p (y + i) column) (inside-high y i (y + i) (omega arith))
 
         go : Dec (column < x) → Dec (column < x + cols)
-            → getD next (placeOf p (y + i) column) 0 ≡ blockAfter top r x y (i + 1) cols samples (y + i) column (placeOf p (y + i) column)
+            → getD next (placeOf p (y + i) column) 0 ≡ sampleAfter top r x y (i + 1) cols samples (y + i) column (placeOf p (y + i) column)
         go (yes h) d =
             new (placeOf p (y + i) column)
             ∙ row-out top (r i) (placeOf p (y + i) x) cur cols (placeOf p (y + i) column) (inside-low (placeOf p (y + i) x) cols (placeOf p (y + i) column) (omega arith))
@@ -86,11 +86,11 @@ module _ (top : ℕ) (r : ℕ → ℕ → ℤ) (x y : ℕ) (samples : List ℕ) 
             ∙ rw f refl))
 
     pub block-more : (row column : ℕ) → column < p .width
-        → getD next (placeOf p row column) 0 ≡ blockAfter top r x y (i + 1) cols samples row column (placeOf p row column)
+        → getD next (placeOf p row column) 0 ≡ sampleAfter top r x y (i + 1) cols samples row column (placeOf p row column)
     block-more row column l = go (ℕ-discrete row (y + i)) (decLt row (y + i))
       where
         go : Dec (row ≡ y + i) → Dec (row < y + i)
-            → getD next (placeOf p row column) 0 ≡ blockAfter top r x y (i + 1) cols samples row column (placeOf p row column)
+            → getD next (placeOf p row column) 0 ≡ sampleAfter top r x y (i + 1) cols samples row column (placeOf p row column)
         go (yes e) d = rw e (here column l)
         go (no ne) (yes h) =
             let m : (row + 1) * p .width ≤ (y + i) * p .width = NatL.mul-le-mul-right (p .width) (omega arith) in
@@ -113,7 +113,7 @@ module _ (p : Plane) (top x y n0 : ℕ) (r : ℕ → ℕ → ℤ) (samples : Lis
 
   pub after-at : (k : ℕ) → k < length samples
       → getD (planeAfter p top x y n0 r samples) k 0
-      ≡ blockAfter top r x y (cut (p .height) y n0) (cut (p .width) x n0) samples (rowOf p k) (columnOf p k) k
+      ≡ sampleAfter top r x y (cut (p .height) y n0) (cut (p .width) x n0) samples (rowOf p k) (columnOf p k) k
   unfolding planeAfter
   after-at k h = getD-tabulate _ (length samples) k 0 h
 
@@ -126,11 +126,11 @@ column-of p row h = digits-mod row h
 
 -- residuals that agree in the rows and columns
 block-same : (top : ℕ) (r q : ℕ → ℕ → ℤ) (x y : ℕ) (samples : List ℕ) (rows cols row column k : ℕ) → ((i j : ℕ) → i < rows → j < cols → r i j ≡ q i j)
-    → blockAfter top r x y rows cols samples row column k ≡ blockAfter top q x y rows cols samples row column k
+    → sampleAfter top r x y rows cols samples row column k ≡ sampleAfter top q x y rows cols samples row column k
 block-same top r q x y samples rows cols row column k e = go (inside y rows row) (inside x cols column) refl refl
   where
     go : (a b : Bool) → inside y rows row ≡ a → inside x cols column ≡ b
-        → blockAfter top r x y rows cols samples row column k ≡ blockAfter top q x y rows cols samples row column k
+        → sampleAfter top r x y rows cols samples row column k ≡ sampleAfter top q x y rows cols samples row column k
     go false b h l = off-rows top r x y samples rows cols row column k h ∙ sym (off-rows top q x y samples rows cols row column k h)
     go true false h l = off-columns top r x y samples rows cols row column k l ∙ sym (off-columns top q x y samples rows cols row column k l)
     go true true h l =
@@ -175,7 +175,7 @@ module _ (p : Plane) (samples : List ℕ) (s : SamplesOf p samples) where
     -- the plane, from what stands at each row and column
     pub by-rows : (l : List ℕ) → length l ≡ length samples
         → ((row column : ℕ) → column < p .width
-        → getD l (placeOf p row column) 0 ≡ blockAfter top r x y (cut (p .height) y n0) (cut (p .width) x n0) samples row column (placeOf p row column))
+        → getD l (placeOf p row column) 0 ≡ sampleAfter top r x y (cut (p .height) y n0) (cut (p .width) x n0) samples row column (placeOf p row column))
         → l ≡ planeAfter p top x y n0 r samples
     unfolding planeAfter
     by-rows l e had = tabulate-is 0 _ l (length samples) e (λ k q. rw (place-of k) at (had (rowOf p k) (columnOf p k) (column-in k q)))

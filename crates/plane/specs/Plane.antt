@@ -24,8 +24,8 @@ rowAfter top r at n samples k =
     cond (inside at n k) (clip top (pos (getD samples k 0) +ℤ r (k - at))) (getD samples k 0)
 
 -- the sample at k, of a row and column, after `rows` rows of `cols` samples at (x, y) got the residuals r i j
-unfoldable pub blockAfter : ℕ → (ℕ → ℕ → ℤ) → ℕ → ℕ → ℕ → ℕ → List ℕ → ℕ → ℕ → ℕ → ℕ
-blockAfter top r x y rows cols samples row column k =
+unfoldable pub sampleAfter : ℕ → (ℕ → ℕ → ℤ) → ℕ → ℕ → ℕ → ℕ → List ℕ → ℕ → ℕ → ℕ → ℕ
+sampleAfter top r x y rows cols samples row column k =
     cond (inside y rows row && inside x cols column)
     (clip top (pos (getD samples k 0) +ℤ r (row - y) (column - x)))
     (getD samples k 0)
@@ -33,4 +33,4 @@ blockAfter top r x y rows cols samples row column k =
 -- the samples after a block of n0 × n0 residuals at (x, y): inside the block cut to the plane the clipped sum, elsewhere what stood there
 unfoldable pub planeAfter : Plane → ℕ → ℕ → ℕ → ℕ → (ℕ → ℕ → ℤ) → List ℕ → List ℕ
 planeAfter p top x y n0 r samples =
-    tabulate (λ k. blockAfter top r x y (cut (p .height) y n0) (cut (p .width) x n0) samples (rowOf p k) (columnOf p k) k) (length samples)
+    tabulate (λ k. sampleAfter top r x y (cut (p .height) y n0) (cut (p .width) x n0) samples (rowOf p k) (columnOf p k) k) (length samples)

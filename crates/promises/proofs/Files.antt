@@ -11,7 +11,7 @@ use Rattle.answers.specs.Limits.{FILE_LIMIT, AREA_LIMIT}
 use Rattle.answers.specs.Bad.{badDepth, badSize}
 use Rattle.answers.proofs.Numbers.{Applies, there}
 use Rattle.vbk_read.specs.Bytes.{le1}
-use Rattle.vbk_read.specs.Header.{HEADER_BYTES, versionOf, depthOf, areaOf, firstRecord, marked, badArea, headerAnswer, Headed}
+use Rattle.vbk_read.specs.Header.{HEADER_BYTES, versionOf, depthOf, planeArea, firstRecord, marked, badArea, headerAnswer, Headed}
 use Rattle.vbk_read.specs.Records.{HEAD_BYTES, sizeAt, losslessAt, nextAt, endAnswer, checkAnswer, Recorded}
 use Rattle.vbk_read.specs.declared.Header.{Header}
 use Rattle.vbk_read.specs.declared.Record.{Record}
@@ -39,18 +39,18 @@ mark-test s h = go (eqb (le1 s 0) 86) (eqb (le1 s 1) 66) (eqb (le1 s 2) 75) refl
     go true true false p q r = rw (p, q, r)
     go true true true p q r = absurd (h (eqb-true (le1 s 0) 86 p) (eqb-true (le1 s 1) 66 q) (eqb-true (le1 s 2) 75 r))
 
-no-area : (s : List ℕ) → badArea (areaOf s) ≡ true → W.Header s 6
+no-area : (s : List ℕ) → badArea (planeArea s) ≡ true → W.Header s 6
 unfolding badArea
 no-area s h =
-    T.or-true (eqb (areaOf s) 0) (ltb AREA_LIMIT (areaOf s)) (λ e. W.empty (eqb-true (areaOf s) 0 e)) (λ e. W.area (ltb-true AREA_LIMIT (areaOf s) e)) h
+    T.or-true (eqb (planeArea s) 0) (ltb AREA_LIMIT (planeArea s)) (λ e. W.empty (eqb-true (planeArea s) 0 e)) (λ e. W.area (ltb-true AREA_LIMIT (planeArea s) e)) h
 
-empty-test : (s : List ℕ) → areaOf s ≡ 0 → badArea (areaOf s) ≡ true
+empty-test : (s : List ℕ) → planeArea s ≡ 0 → badArea (planeArea s) ≡ true
 unfolding badArea
-empty-test s h = T.left (eqb (areaOf s) 0) (ltb AREA_LIMIT (areaOf s)) (eq-eqb (areaOf s) 0 h)
+empty-test s h = T.left (eqb (planeArea s) 0) (ltb AREA_LIMIT (planeArea s)) (eq-eqb (planeArea s) 0 h)
 
-area-test : (s : List ℕ) → AREA_LIMIT < areaOf s → badArea (areaOf s) ≡ true
+area-test : (s : List ℕ) → AREA_LIMIT < planeArea s → badArea (planeArea s) ≡ true
 unfolding badArea
-area-test s h = T.right (eqb (areaOf s) 0) (ltb AREA_LIMIT (areaOf s)) (lt-ltb AREA_LIMIT (areaOf s) h)
+area-test s h = T.right (eqb (planeArea s) 0) (ltb AREA_LIMIT (planeArea s)) (lt-ltb AREA_LIMIT (planeArea s) h)
 
 abbrev headerSteps : List ℕ → List (ℕ × Bool)
 headerSteps s =
@@ -59,7 +59,7 @@ headerSteps s =
     ∷ (3, not (marked s))
     ∷ (4, not (eqb (versionOf s) 1))
     ∷ (5, badDepth (depthOf s))
-    ∷ (6, badArea (areaOf s))
+    ∷ (6, badArea (planeArea s))
     ∷ (7, ltb (length s) (firstRecord s))
     ∷ []
 

@@ -10,7 +10,7 @@ use Rattle.idct.specs.Driver as D
 use Rattle.reconstruct.specs.Reconstruct as R
 use Rattle.fwd_transform.specs.Quantize as Q
 use Rattle.vbk_read.specs.Bytes.{le1}
-use Rattle.vbk_read.specs.Header.{HEADER_BYTES, versionOf, depthOf, areaOf, firstRecord}
+use Rattle.vbk_read.specs.Header.{HEADER_BYTES, versionOf, depthOf, planeArea, firstRecord}
 use Rattle.vbk_read.specs.Records.{HEAD_BYTES, sizeAt, losslessAt, nextAt}
 use Rattle.vbk.specs.Replay.{RECORD_LIMIT}
 use Rattle.promises.specs.Conditions.{NoDepth, LosslessAt, NoKind, NoQuantizer, SomeBeyond}
@@ -59,8 +59,8 @@ pub data Header (s : List ℕ) : ℕ → Type 0 where
   mark : (le1 s 0 ≡ 86 → le1 s 1 ≡ 66 → le1 s 2 ≡ 75 → ⊥) → Header s 3
   version : (versionOf s ≡ 1 → ⊥) → Header s 4
   depth : NoDepth (depthOf s) → Header s 5
-  empty : areaOf s ≡ 0 → Header s 6
-  area : AREA_LIMIT < areaOf s → Header s 6
+  empty : planeArea s ≡ 0 → Header s 6
+  area : AREA_LIMIT < planeArea s → Header s 6
   samples : length s < firstRecord s → Header s 7
 
 -- the number of each step of the header, 0 for none

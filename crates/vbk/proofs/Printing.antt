@@ -10,7 +10,7 @@ use lib.Dec.{eqb}
 use lib.ListN.{length, getD, take, drop, length-append, length-drop}
 use lib.Seq.{take-at, getD-take, length-take-le}
 use Rattle.answers.specs.Answers.{number}
-use Rattle.vbk_read.specs.Header.{versionOf, depthOf, widthOf, heightOf, areaOf, headerAnswer, fieldsOf}
+use Rattle.vbk_read.specs.Header.{versionOf, depthOf, widthOf, heightOf, planeArea, headerAnswer, fieldsOf}
 use Rattle.vbk_read.specs.declared.Fields.{Fields}
 use Rattle.vbk_read.proofs.Headers.{good}
 use Rattle.vbk_text.specs.Text.{Outcome, refused, ran, text, TEXT_LIMIT}
@@ -109,18 +109,18 @@ module _ (s samples answers out : List ℕ) where
         answers-are = d .answers-are ∙ rw run-fine
 
         -- a run keeps the plane's length
-        plane-long : length (runOf s .plane) ≡ areaOf s
+        plane-long : length (runOf s .plane) ≡ planeArea s
         plane-long =
-            omega (arith, ls, ap length samples-are, length-append (runOf s .plane) (drop (areaOf s) samples), length-drop (areaOf s) samples, good s fine .area-fits)
+            omega (arith, ls, ap length samples-are, length-append (runOf s .plane) (drop (planeArea s) samples), length-drop (planeArea s) samples, good s fine .area-fits)
 
-        taken-samples : take (areaOf s) samples′ ≡ runOf s .plane
-        taken-samples = ap (take (areaOf s)) samples-are ∙ take-at (runOf s .plane) (drop (areaOf s) samples) (areaOf s) plane-long
+        taken-samples : take (planeArea s) samples′ ≡ runOf s .plane
+        taken-samples = ap (take (planeArea s)) samples-are ∙ take-at (runOf s .plane) (drop (planeArea s) samples) (planeArea s) plane-long
 
         taken-answers : take (r .count) answers′ ≡ runOf s .answers
         taken-answers =
             ap (take (r .count)) answers-are ∙ take-at (runOf s .answers) (drop (length (runOf s .answers)) answers) (r .count) (sym count-is)
 
-        area-of : r .fields .width * r .fields .height ≡ areaOf s
+        area-of : r .fields .width * r .fields .height ≡ planeArea s
         area-of = ap (λ (f : Fields). f .width * f .height) fields-are
 
         pub outcome-is : outcomeOf r samples′ answers′ ≡ replay reconstruction s
@@ -145,7 +145,7 @@ module _ (s samples answers out : List ℕ) where
                 height-some = some-right (widthOf s) (heightOf s) (g .area-some);
                 records-few = omega (arith, count-is, d .count-most);
                 answers-small = λ i l. omega (arith, ap (λ (x : List ℕ). getD x i 0) (sym taken-answers) ∙ getD-take (r .count) answers′ i 0 (omega (arith, count-is)), answers-fit i);
-                samples-small = λ k l. omega (arith, ap (λ (x : List ℕ). getD x k 0) (sym taken-samples) ∙ getD-take (areaOf s) samples′ k 0 (omega (arith, N.mul-comm (heightOf s) (widthOf s))), samples-fit k);
+                samples-small = λ k l. omega (arith, ap (λ (x : List ℕ). getD x k 0) (sym taken-samples) ∙ getD-take (planeArea s) samples′ k 0 (omega (arith, N.mul-comm (heightOf s) (widthOf s))), samples-fit k);
                 touched-small = omega (arith, touched-is, d .touched-most);
               }
 

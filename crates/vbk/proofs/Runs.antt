@@ -11,7 +11,7 @@ use Rattle.whole.specs.Lists.{fill}
 use Rattle.whole.proofs.Lists.{fill-all}
 use Rattle.answers.specs.Answers.{number}
 use Rattle.answers.specs.declared.Answer.{Answer}
-use Rattle.vbk_read.specs.Header.{sampleAt, planeOf, areaOf, firstRecord, headerAnswer, fieldsOf, noFields}
+use Rattle.vbk_read.specs.Header.{sampleAt, planeOf, planeArea, firstRecord, headerAnswer, fieldsOf, noFields}
 use Rattle.vbk_read.specs.declared.Fields.{Fields}
 use Rattle.vbk.specs.Replay.{records, recordsOf, Ran}
 use Rattle.vbk.specs.Filled.{reconstruction}
@@ -19,7 +19,7 @@ use Rattle.vbk.specs.Promises.{runOf, roomy, runAnswer, Replayed}
 use Rattle.vbk.specs.declared.Run.{Run}
 
 -- the samples, read into a room of their own length
-pub plane-read : (s samples : List ℕ) {read : List ℕ} {at : ℕ} → length samples ≡ areaOf s → at ≡ 10 → read ≡ fill (length samples) (sampleAt s at) samples → read ≡ planeOf s
+pub plane-read : (s samples : List ℕ) {read : List ℕ} {at : ℕ} → length samples ≡ planeArea s → at ≡ 10 → read ≡ fill (length samples) (sampleAt s at) samples → read ≡ planeOf s
 unfolding planeOf
 plane-read s samples {read} {at} l e h =
     h ∙ fill-all 0 (sampleAt s at) samples ∙ rw (l, e)
@@ -49,7 +49,7 @@ refusal s samples answers a {r} e h z =
     rw e (record { answered = h; fields-are = rw b; count-is = rw b; touched-is = rw b; samples-are = rw b; answers-are = rw b; count-most = omega arith; touched-most = omega arith })
 
 -- a whole run
-pub whole : (s samples answers : List ℕ) (a : Answer) (f : Fields) (count touched n : ℕ) (plane after : List ℕ) → n ≡ areaOf s → number a ≡ 0 → runAnswer s samples answers ≡ 0 → f ≡ fieldsOf s → Ran (runOf s) count touched answers after plane
+pub whole : (s samples answers : List ℕ) (a : Answer) (f : Fields) (count touched n : ℕ) (plane after : List ℕ) → n ≡ planeArea s → number a ≡ 0 → runAnswer s samples answers ≡ 0 → f ≡ fieldsOf s → Ran (runOf s) count touched answers after plane
     → Replayed s samples answers (record { answer = a; fields = f; count = count; touched = touched }) (plane ++ drop n samples) after
 whole s samples answers a f count touched n plane after an z h e r =
     record {
@@ -57,7 +57,7 @@ whole s samples answers a f count touched n plane after an z h e r =
       fields-are = e ∙ sym (rw h);
       count-is = r .count-is ∙ sym (rw h);
       touched-is = r .touched-is ∙ sym (rw h);
-      samples-are = ap (λ (k : ℕ). plane ++ drop k samples) an ∙ ap (λ (l : List ℕ). l ++ drop (areaOf s) samples) (r .samples-are) ∙ sym (rw h);
+      samples-are = ap (λ (k : ℕ). plane ++ drop k samples) an ∙ ap (λ (l : List ℕ). l ++ drop (planeArea s) samples) (r .samples-are) ∙ sym (rw h);
       answers-are = r .answers-are ∙ ap (λ (k : ℕ). runOf s .answers ++ drop k answers) (r .count-is) ∙ sym (rw h);
       count-most = r .count-most;
       touched-most = r .touched-most;

@@ -7,7 +7,7 @@ use lib.Dec.{leb, eqb}
 use lib.ListN.{length, take, drop}
 use Rattle.answers.specs.Answers.{number}
 use Rattle.answers.specs.Limits.{AREA_LIMIT, FILE_LIMIT}
-use Rattle.vbk_read.specs.Header.{areaOf, headerAnswer, fieldsOf, noFields}
+use Rattle.vbk_read.specs.Header.{planeArea, headerAnswer, fieldsOf, noFields}
 use Rattle.vbk_text.specs.Text.{Outcome, ran, text, TEXT_LIMIT}
 use Rattle.vbk.specs.Replay.{RECORD_LIMIT, After, recordsOf, replay}
 use Rattle.vbk.specs.Filled.{reconstruction}
@@ -27,7 +27,7 @@ runAnswer s samples answers = cond (roomy samples answers) (headerAnswer s) 6
 
 -- the plane after the run at the front of the room for the samples
 abbrev pub samplesFor : List ℕ → List ℕ → List ℕ
-samplesFor s samples = runOf s .plane ++ drop (areaOf s) samples
+samplesFor s samples = runOf s .plane ++ drop (planeArea s) samples
 
 -- every record's answer at the front of the room for the answers
 abbrev pub answersFor : List ℕ → List ℕ → List ℕ

@@ -4,7 +4,7 @@ ghost use Prim.Native.Nat.{_+_, _*_, _≤_, _<_};
 ghost use lib.IntN.{pos};
 ghost use lib.ListN.{length, replicate};
 ghost use Rattle.answers.specs.Answers.{number};
-ghost use Rattle.vbk_read.specs.Header.{areaOf, headerAnswer, fieldsOf, noFields};
+ghost use Rattle.vbk_read.specs.Header.{planeArea, headerAnswer, fieldsOf, noFields};
 ghost use Rattle.vbk_read.specs.Records.{sizeAt, headAt, nextAt};
 ghost use Rattle.answers.specs.Limits.{FILE_LIMIT};
 ghost use Rattle.vbk.specs.Replay.{RECORD_LIMIT, touchedBy, records, Stepped, Ran};
@@ -151,7 +151,7 @@ fn read_records(
 
 // The plane as the file has it, then the records.
 fn play(file: &[u8], fields: Fields, samples: &mut [u16], answers: &mut [u8]) -> Tally
-    requires { ⌜ (headerAnswer (now file) ≡ 0) × (fields ≡ fieldsOf (now file)) × (length (now samples) ≡ areaOf (now file)) × (RECORD_LIMIT ≤ length (now answers)) ⌝ }
+    requires { ⌜ (headerAnswer (now file) ≡ 0) × (fields ≡ fieldsOf (now file)) × (length (now samples) ≡ planeArea (now file)) × (RECORD_LIMIT ≤ length (now answers)) ⌝ }
     ensures { λ r. ⌜ Ran (runOf (now (file .entry))) (r .count) (r .touched) (now (answers .entry)) (now (answers .exit)) (now (samples .exit)) ⌝ }
 {
     let n = samples.len();

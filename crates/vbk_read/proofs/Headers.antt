@@ -11,7 +11,7 @@ use lib.ListN.{length}
 use Rattle.answers.specs.Bad.{badDepth}
 use Rattle.answers.proofs.Numbers.{pass, rest}
 use Rattle.vbk_read.specs.Bytes.{le1, le2, Took}
-use Rattle.vbk_read.specs.Header.{marked, badArea, headerAnswer, fieldsOf, versionOf, depthOf, areaOf, firstRecord}
+use Rattle.vbk_read.specs.Header.{marked, badArea, headerAnswer, fieldsOf, versionOf, depthOf, planeArea, firstRecord}
 use Rattle.vbk_read.specs.declared.Fields.{Fields}
 
 below : (n : ℕ) → n < 2 ^ 16 → n ≤ 65535
@@ -27,8 +27,8 @@ pub record Good (s : List ℕ) : Type 0 where
   pub marked-is : marked s ≡ true
   pub version-is : versionOf s ≡ 1
   pub depth-is : badDepth (depthOf s) ≡ false
-  pub area-some : 0 < areaOf s
-  pub area-fits : areaOf s ≤ 4096
+  pub area-some : 0 < planeArea s
+  pub area-fits : planeArea s ≤ 4096
   pub samples-there : firstRecord s ≤ length s
 
 or-left : (a b : Bool) → a || b ≡ false → a ≡ false
@@ -52,8 +52,8 @@ good s h =
     let h4 = rest (not (marked s)) 9 _ h3 in
     let h5 = rest (not (eqb (versionOf s) 1)) 10 _ h4 in
     let h6 = rest (badDepth (depthOf s)) 0 _ h5 in
-    let h7 = rest (badArea (areaOf s)) 12 _ h6 in
-    let a = area-ok (areaOf s) (pass (badArea (areaOf s)) 12 _ h6) in
+    let h7 = rest (badArea (planeArea s)) 12 _ h6 in
+    let a = area-ok (planeArea s) (pass (badArea (planeArea s)) 12 _ h6) in
     record {
       file-fits = ltb-false 65535 (length s) (pass (ltb 65535 (length s)) 12 _ h);
       mark-there = ltb-false (length s) 10 (pass (ltb (length s) 10) 11 _ h2);

@@ -34,8 +34,8 @@ abbrev pub heightOf : List ℕ → ℕ
 heightOf s = le2 s 8
 
 -- how many samples the plane has
-abbrev pub areaOf : List ℕ → ℕ
-areaOf s = widthOf s * heightOf s
+abbrev pub planeArea : List ℕ → ℕ
+planeArea s = widthOf s * heightOf s
 
 -- sample k of those from a place on
 unfoldable pub sampleAt : List ℕ → ℕ → ℕ → ℕ
@@ -43,11 +43,11 @@ sampleAt s at k = le2 s (at + 2 * k)
 
 -- the plane as the file has it
 unfoldable pub planeOf : List ℕ → List ℕ
-planeOf s = tabulate (sampleAt s HEADER_BYTES) (areaOf s)
+planeOf s = tabulate (sampleAt s HEADER_BYTES) (planeArea s)
 
 -- the place of the first record
 abbrev pub firstRecord : List ℕ → ℕ
-firstRecord s = HEADER_BYTES + 2 * areaOf s
+firstRecord s = HEADER_BYTES + 2 * planeArea s
 
 -- the mark, "VBK"
 unfoldable pub marked : List ℕ → Bool
@@ -66,7 +66,7 @@ headerAnswer s =
     ∷ (10, not (marked s))
     ∷ (11, not (eqb (versionOf s) 1))
     ∷ (1, badDepth (depthOf s))
-    ∷ (13, badArea (areaOf s))
+    ∷ (13, badArea (planeArea s))
     ∷ (12, ltb (length s) (firstRecord s))
     ∷ [])
 

@@ -7,7 +7,7 @@ use lib.IntN.{pos}
 use lib.ListN.{length, getD}
 use borrow.Author.Needs.{needs}
 use Rattle.plane.specs.Place.{placeOf, areaOf, cut}
-use Rattle.plane.specs.Plane.{blockAfter}
+use Rattle.plane.specs.Plane.{sampleAfter}
 use Rattle.plane.proofs.Block.{block-none, block-more, by-rows}
 use Rattle.plane.proofs.add_rows.Statement.{statement}
 use Rattle.plane.proofs.add_rows.Tie as tie
@@ -17,7 +17,7 @@ Inv-loop samples₀ plane x y residual step n0 rows cols top i₀ samples i =
     ((i ≤ rows) × (length samples ≡ length samples₀))
     × ((row column : ℕ) → column < plane .width
     → getD samples (placeOf plane row column) 0
-    ≡ blockAfter top (λ i j. getD residual (i * step + j) (pos 0)) x y i cols samples₀ row column (placeOf plane row column))
+    ≡ sampleAfter top (λ i j. getD residual (i * step + j) (pos 0)) x y i cols samples₀ row column (placeOf plane row column))
 
 abbrev μ-loop : tie.MeasureT-loop
 μ-loop samples₀ plane x y residual step n0 rows cols top i₀ samples i = rows - i

@@ -4,7 +4,7 @@ use native.Mathlib.Omega.{arith}
 use borrow.Author.Needs.{needs}
 use lib.ListN.{length}
 use lib.Seq.{length-take-le}
-use Rattle.vbk_read.specs.Header.{areaOf, headerAnswer, fieldsOf}
+use Rattle.vbk_read.specs.Header.{planeArea, headerAnswer, fieldsOf}
 use Rattle.vbk_read.specs.declared.Fields.{Fields}
 use Rattle.vbk_read.proofs.Headers.{good}
 use Rattle.vbk.proofs.Runs.{short-samples, short-answers, enough, refusal, whole}
@@ -36,7 +36,7 @@ done c = sym (c .before .before .read-header .ensures .answered) ∙ sym (c .bef
 fields-are : (c : tie.Else3) → c .before .before .read-header .result .fields ≡ fieldsOf (c .before .before .before .before .before .before .before .before .args .file .now)
 fields-are c = c .before .before .read-header .ensures .fields-are ∙ rw (done c)
 
-area-is : (c : tie.After-area) → c .area .result ≡ areaOf (c .before .before .before .before .before .before .before .before .before .before .args .file .now)
+area-is : (c : tie.After-area) → c .area .result ≡ planeArea (c .before .before .before .before .before .before .before .before .before .before .args .file .now)
 area-is c = c .area .ensures ∙ ap (λ (f : Fields). f .width * f .height) (fields-are (c .before .before))
 
 -- the plane's samples have room

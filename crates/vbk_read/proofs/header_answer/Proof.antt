@@ -7,7 +7,7 @@ use borrow.Author.Tests.{lt-ltb, le-ltb, eq-eqb, ne-eqb}
 use lib.Dec.{ltb, eqb}
 use lib.ListN.{length}
 use Rattle.answers.specs.Bad.{badDepth}
-use Rattle.vbk_read.specs.Header.{marked, versionOf, depthOf, areaOf, badArea, fieldsOf, headerAnswer}
+use Rattle.vbk_read.specs.Header.{marked, versionOf, depthOf, planeArea, badArea, fieldsOf, headerAnswer}
 use Rattle.vbk_read.specs.declared.Fields.{Fields}
 use Rattle.vbk_read.proofs.Headers.{area-ok}
 use Rattle.vbk_read.proofs.header_answer.Statement.{statement}
@@ -36,13 +36,13 @@ depth-of c = c .bad-depth .ensures ∙ ap badDepth (c .before .byte32 .ensures .
 no5 : (c : tie.Else5) → badDepth (depthOf (c .before .before .before .before .before .before .before .before .before .before .before .args .s .now)) ≡ false
 no5 c = sym (depth-of (c .before)) ∙ c .if5 .left
 
-area-is : (c : tie.After-area) → c .area .result ≡ areaOf (c .before .before .before .before .before .before .before .before .before .before .before .before .args .s .now)
+area-is : (c : tie.After-area) → c .area .result ≡ planeArea (c .before .before .before .before .before .before .before .before .before .before .before .before .args .s .now)
 area-is c = c .area .ensures ∙ is (c .before .before .before .before .before .before) (λ (f : Fields). f .width * f .height)
 
-area-of : (c : tie.After-bad-area) → c .bad-area .result ≡ badArea (areaOf (c .before .before .before .before .before .before .before .before .before .before .before .before .before .args .s .now))
+area-of : (c : tie.After-bad-area) → c .bad-area .result ≡ badArea (planeArea (c .before .before .before .before .before .before .before .before .before .before .before .before .before .args .s .now))
 area-of c = c .bad-area .ensures ∙ ap badArea (area-is (c .before))
 
-no6 : (c : tie.Else6) → badArea (areaOf (c .before .before .before .before .before .before .before .before .before .before .before .before .before .before .args .s .now)) ≡ false
+no6 : (c : tie.Else6) → badArea (planeArea (c .before .before .before .before .before .before .before .before .before .before .before .before .before .before .args .s .now)) ≡ false
 no6 c = sym (area-of (c .before)) ∙ c .if6 .left
 
 returns : tie.Need-returns
