@@ -1,6 +1,6 @@
 -- `rows` and `columns`, number by number, and that loops over the lines come to them.
 use mathlib.Core.Path.{_≡_, refl, sym, ap, _∙_}
-use mathlib.Core.Bool.{cond, true, false}
+use mathlib.Core.Bool.{cond}
 use mathlib.Core.List.{List}
 use mathlib.Core.Logic.{⊎-elim, _≢_}
 use Prim.Native.Nat.{ℕ, zero, suc, _+_, _*_, _/_, _%_, _≤_, _<_}
@@ -16,7 +16,7 @@ use Rattle.whole.specs.Lists.{tabulate}
 use Rattle.whole.specs.Loops.{times}
 use Rattle.whole.proofs.Lists.{length-tabulate, getD-tabulate}
 use Rattle.whole.proofs.Loops.{times-keeps}
-use Rattle.blocks.specs.Block.{line, row, column, anew, rows, columns, put, on}
+use Rattle.blocks.specs.Block.{line, row, column, anew, rows, columns, on}
 use Rattle.blocks.proofs.Places.{in-row, in-column, rows-apart, columns-apart, le-or-lt, by-place}
 use Rattle.blocks.proofs.Lines.{line-same, on-length, on-other, on-at}
 

@@ -1,27 +1,25 @@
 -- Laws of the two-dimensional inverse transform: number (i, j), what is past the block, ranges through both passes, zero rows, the DC-only case.
-use mathlib.Core.Path.{_≡_, refl, sym, ap, _∙_, subst}
+use mathlib.Core.Path.{_≡_, sym, ap, _∙_}
 use mathlib.Core.Bool.{Bool, true, false}
 use mathlib.Core.List.{List}
-use mathlib.Core.Logic.{⊎-elim}
-use Prim.Native.Nat.{ℕ, zero, suc, min, _+_, _-_, _*_, _/_, _%_, _^_, _≤_, _<_}
+use Prim.Native.Nat.{ℕ, zero, _+_, _-_, _*_, _/_, _^_, _≤_, _<_}
 use native.Mathlib.Nat as NatL
 use native.Mathlib.Omega.{arith}
 use lib.Arith.{digits-lt}
 use lib.IntN.{ℤ, pos}
 use lib.Pow.{pow-pos}
-use lib.ListN.{length, getD, replicate}
+use lib.ListN.{length, getD}
 use Rattle.whole.specs.Lists.{fill}
 use Rattle.whole.specs.Round.{Round2}
-use Rattle.whole.specs.Within.{Within, EachWithin}
+use Rattle.whole.specs.Within.{Within}
 use Rattle.whole.proofs.Round.{round2-within}
 use Rattle.whole.proofs.Within.{within-le}
 use Rattle.steps.specs.Step.{turned}
 use Rattle.steps.proofs.Shapes.{Zeros, Alone}
-use Rattle.dct.specs.Dct.{dct}
 use Rattle.dct.proofs.Dct.{dct-dc, dct-zeros, two-to-five}
-use Rattle.blocks.specs.Block.{line, row, column, anew, rows, columns, put, on, rowsThenColumns, live, FirstWithin}
-use Rattle.blocks.specs.Inverse.{Pass, Dct, Adst, Wht, apply, rowPass, columnPass, bits, rounding, inverse2d, dcOnly, Possible, Safe}
-use Rattle.blocks.proofs.Places.{in-row, in-column, le-or-lt, by-place}
+use Rattle.blocks.specs.Block.{line, row, column, anew, rows, columns, on, rowsThenColumns, live, FirstWithin}
+use Rattle.blocks.specs.Inverse.{Pass, Dct, apply, rowPass, columnPass, bits, rounding, inverse2d, dcOnly, Possible, Safe}
+use Rattle.blocks.proofs.Places.{in-row, in-column, by-place}
 use Rattle.blocks.proofs.Lines.{line-length, line-at, fill-length, fill-at, fill-past, on-still}
 use Rattle.blocks.proofs.Live.{dead-at}
 use Rattle.blocks.proofs.Blocks.{anew-length, anew-at, anew-past, block-ext, rows-length, rows-at, rows-past, columns-length, columns-at, columns-past}

@@ -1,19 +1,17 @@
 -- Laws of a pass's transform, over the pass: entries past the line stay, zeros stay zeros, how far it grows.
-use mathlib.Core.Path.{_≡_, refl, sym, ap, _∙_, subst}
+use mathlib.Core.Path.{_≡_, refl}
 use mathlib.Core.Bool.{Bool, true, false, cond, _||_}
 use mathlib.Core.List.{List}
 use mathlib.Core.Logic.{⊎-elim}
-use Prim.Native.Nat.{ℕ, _+_, _*_, _^_, _≤_, _<_}
+use Prim.Native.Nat.{ℕ, _^_, _≤_, _<_}
 use native.Mathlib.Nat.{eq-or-lt-of-le}
 use native.Mathlib.Omega.{arith}
-use borrow.Author.Tests.{eq-eqb}
 use lib.Dec.{eqb}
-use lib.IntN.{ℤ, pos}
-use lib.ListN.{length, getD, replicate, length-replicate, getD-replicate}
-use Rattle.whole.specs.Within.{Within, EachWithin}
+use lib.IntN.{ℤ}
+use lib.ListN.{length, replicate, length-replicate, getD-replicate}
+use Rattle.whole.specs.Within.{EachWithin}
 use Rattle.steps.proofs.Shapes.{Zeros}
 use Rattle.steps.proofs.Places.{Stays}
-use Rattle.dct.specs.Dct.{dct}
 use Rattle.dct.proofs.Dct.{dct-stays, dct-zeros}
 use Rattle.dct.proofs.Ranges.{dct-row, dct-column}
 use Rattle.adst.proofs.Adst.{adst-stays, adst-zeros}

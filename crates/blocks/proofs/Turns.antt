@@ -1,15 +1,14 @@
 -- A loop over the lines of a pass, turn by turn: the laws of its invariant, once for rows and columns, for every pass and every engine.
 use mathlib.Core.Path.{_≡_, refl, sym, ap, _∙_, subst}
-use mathlib.Core.Bool.{Bool, true, false}
+use mathlib.Core.Bool.{false}
 use mathlib.Core.List.{List}
-use Prim.Native.Nat.{ℕ, zero, suc, _+_, _*_, _^_, _≤_, _<_}
+use Prim.Native.Nat.{ℕ, _+_, _*_, _^_, _≤_, _<_}
 use native.Mathlib.Nat.{le-antisymm, mul-one}
 use native.Mathlib.Omega.{arith}
 use lib.IntN.{ℤ, pos}
 use lib.ListN.{length, getD, replicate}
 use Rattle.whole.specs.Lists.{fill}
 use Rattle.whole.specs.Loops.{times}
-use Rattle.whole.specs.Within.{Within}
 use Rattle.whole.proofs.Loops.{times-none, times-more}
 use Rattle.whole.proofs.Within.{within-le}
 use Rattle.steps.proofs.Places.{Stays}
@@ -17,7 +16,7 @@ use Rattle.steps.proofs.Shapes.{Zeros}
 use Rattle.blocks.specs.Block.{line, rows, columns, put, on, live, FirstWithin}
 use Rattle.blocks.specs.Inverse.{Pass, apply, Safe}
 use Rattle.blocks.proofs.Places.{in-row, in-column}
-use Rattle.blocks.proofs.Lines.{zeros-at, line-length, line-at, line-past, fill-line, put-length, on-length, on-still}
+use Rattle.blocks.proofs.Lines.{zeros-at, line-length, line-at, line-past, fill-line, put-length, on-still}
 use Rattle.blocks.proofs.Blocks.{rows-loop, row-to-come, columns-loop, column-to-come}
 use Rattle.blocks.proofs.Passes.{Valid, pass-stays, pass-zeros}
 use Rattle.blocks.proofs.Inverse.{side-most, row-safe, row-grown, column-safe, column-grown, zero-row}

@@ -1,11 +1,11 @@
 -- The drivers' table: what a passed test says, the answer from its parts, and that two results that meet the promise coincide.
 use mathlib.Core.Path.{_≡_, refl, sym, ap, _∙_}
-use mathlib.Core.Bool.{Bool, true, false, cond, not, _&&_, _||_}
+use mathlib.Core.Bool.{Bool, true, false, cond, not}
 use mathlib.Core.List.{List}
-use Prim.Native.Nat.{ℕ, zero, suc, _+_, _-_, _*_, _^_, _≤_, _<_}
+use Prim.Native.Nat.{ℕ, suc, _-_, _^_, _≤_}
 use native.Mathlib.Nat.{mul-le-mul}
 use native.Mathlib.Omega.{arith}
-use borrow.Author.Tests.{ltb-true, ltb-false, le-ltb, eqb-true, eqb-false, eq-eqb, ne-eqb}
+use borrow.Author.Tests.{ltb-false, eqb-true, eq-eqb, ne-eqb}
 use lib.Dec.{ltb, eqb}
 use lib.IntN.{ℤ, pos, natAbs}
 use lib.ListN.{length, getD}
@@ -14,7 +14,7 @@ use Rattle.whole.specs.Lists.{fill}
 use Rattle.whole.proofs.Within.{within-le}
 use Rattle.answers.specs.declared.Answer.{Answer}
 use Rattle.answers.specs.declared.Answer.the-variants.{Done, Coefficient}
-use Rattle.answers.specs.Answers.{number, lowest}
+use Rattle.answers.specs.Answers.{number}
 use Rattle.answers.specs.Bad.{badLossless, badKind, anyBeyond}
 use Rattle.answers.specs.Limits.{COEF_LIMIT}
 use Rattle.answers.proofs.Numbers.{number-injective}

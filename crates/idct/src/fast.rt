@@ -1,6 +1,6 @@
 ghost use mathlib.Core.Path.{_≡_};
-ghost use mathlib.Core.Bool.{Bool, true, false};
-ghost use Prim.Native.Nat.{ℕ, _*_, _^_, _≤_};
+ghost use mathlib.Core.Bool.{true, false};
+ghost use Prim.Native.Nat.{_*_, _^_, _≤_};
 ghost use lib.Dec.{ltb};
 ghost use lib.IntN.{pos, natAbs};
 ghost use lib.ListN.{length, getD};
@@ -9,8 +9,8 @@ ghost use Rattle.whole.specs.Round.{Round2};
 ghost use Rattle.whole.specs.Within.{Within};
 ghost use Rattle.answers.specs.Bad.{anyBeyond};
 ghost use Rattle.answers.specs.Limits.{COEF_LIMIT};
-ghost use Rattle.blocks.specs.Block.{rows, columns, rowsThenColumns, live, FirstWithin};
-ghost use Rattle.blocks.specs.Inverse.{Pass, Dct, Adst, Wht, apply, lossy, rowPass, columnPass, bits, rounding, inverse2d, dcOnly, Possible, Safe};
+ghost use Rattle.blocks.specs.Block.{rows, columns, live, FirstWithin};
+ghost use Rattle.blocks.specs.Inverse.{Dct, Wht, apply, lossy, inverse2d, dcOnly, Possible, Safe};
 ghost use Rattle.idct.specs.Driver.{onlyDc, Tried};
 
 // Sizes apart: their numbers are literals, so that the loops unroll.
@@ -254,8 +254,8 @@ fn is_beyond(x: i64) -> bool
     answers::COEF_LIMIT < answers::magnitude(x)
 }
 
-// None of the first `count` numbers is beyond the limit, nor is one the limit itself: quick, and enough for almost every block.
-fn near(block: &[i64], count: usize) -> bool
+// True only where none of the first `count` numbers is beyond the limit; false for the limit itself too. Quick, and enough for almost every block.
+fn surely_within(block: &[i64], count: usize) -> bool
     requires { ⌜ count ≤ length (now block) ⌝ }
     ensures { λ r. ⌜ (r ≡ true → anyBeyond COEF_LIMIT count (now (block .entry)) ≡ false) ⌝ }
 {
@@ -343,7 +343,7 @@ fn tried2(block: &mut [i64], tx_type: u8) -> bool
     requires { ⌜ 16 ≤ length (now block) ⌝ }
     ensures { λ r. ⌜ Tried (record { block = now (block .entry); n = 2; type = «tx_type»; lossless = false }) r (now (block .exit)) ⌝ }
 {
-    if !near(block, 16) {
+    if !surely_within(block, 16) {
         return false;
     }
     inverse4(block, tx_type);
@@ -374,7 +374,7 @@ pub fn tried_large(block: &mut [i64], n: u32, tx_type: u8) -> bool
         dc_fill(block, n, n0 * n0);
         return true;
     }
-    if !near(block, n0 * n0) {
+    if !surely_within(block, n0 * n0) {
         return false;
     }
     both_passes(block, n, tx_type, false);

@@ -3,7 +3,6 @@ ghost use mathlib.Core.Path.{_≡_};
 ghost use mathlib.Core.Bool.{_||_};
 ghost use Prim.Native.Nat.{_*_, _^_, _≤_};
 ghost use lib.Dec.{eqb};
-ghost use lib.ListN.{length};
 ghost use Rattle.answers.specs.Answers.{number};
 ghost use Rattle.blocks.specs.Inverse.{bits};
 ghost use Rattle.idct.specs.Driver.{badSide, shapeOf, Driven};

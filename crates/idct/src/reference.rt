@@ -1,9 +1,9 @@
 ghost use mathlib.Core.Path.{_≡_};
-ghost use mathlib.Core.Bool.{Bool, false, cond};
+ghost use mathlib.Core.Bool.{false, cond};
 ghost use Prim.Native.Nat.{ℕ, _+_, _*_, _^_, _≤_, _<_};
 ghost use lib.ListN.{length};
 ghost use Rattle.blocks.specs.Block.{rows, columns, put, FirstWithin};
-ghost use Rattle.blocks.specs.Inverse.{Wht, apply, lossy, rowPass, columnPass, bits, rounding, Possible, Safe};
+ghost use Rattle.blocks.specs.Inverse.{Wht, apply, lossy, rowPass, columnPass, rounding, Possible, Safe};
 
 // DCT of 2^n numbers, or ADST.
 fn dct_or_adst(t: &mut [i64; 32], n: u32, use_dct: bool)

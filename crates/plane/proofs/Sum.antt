@@ -1,7 +1,7 @@
 -- The sum of a sample and a residual as the machine has it, and what the two tests make of it.
-use mathlib.Core.Path.{_≡_, refl, sym, ap, _∙_}
+use mathlib.Core.Path.{_≡_, refl, ap}
 use mathlib.Core.Bool.{true, false}
-use Prim.Native.Nat.{ℕ, min, _<_, _≤_, _^_}
+use Prim.Native.Nat.{ℕ, min, _<_, _^_}
 use native.Mathlib.Omega.{arith}
 use lib.IntN.{ℤ, pos, negsuc, _+ℤ_}
 use lib.Signed.{ltZ}

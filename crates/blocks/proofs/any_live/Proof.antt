@@ -1,14 +1,8 @@
 use mathlib.Core.Logic.{⊎-elim}
-use mathlib.Core.Path.{_≡_, refl, sym, _∙_, ap}
-use mathlib.Core.Bool.{true, false}
-use Prim.Native.Nat.{ℕ, _≤_, _<_, _-_, _+_, _*_}
+use mathlib.Core.Path.{_≡_, _∙_}
+use Prim.Native.Nat.{_≤_, _-_}
 use native.Mathlib.Omega.{arith}
 use borrow.Author.Needs.{needs}
-use lib.Dec.{ltb}
-use lib.IntN.{pos, natAbs}
-use lib.ListN.{length, getD}
-use mir.Syntax.{w64}
-use mir.Facts.{toZ-ofZ}
 use Rattle.blocks.specs.Block.{live}
 use Rattle.blocks.proofs.Live.{live-none, live-next, live-hit}
 use Rattle.blocks.proofs.any_live.Statement.{statement}

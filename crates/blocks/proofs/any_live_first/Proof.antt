@@ -1,4 +1,3 @@
-use native.Mathlib.Omega.{arith}
 use borrow.Author.Needs.{needs}
 use Rattle.blocks.proofs.Live.{live-first, live-rest}
 use Rattle.blocks.proofs.any_live_first.Statement.{statement}

@@ -1,5 +1,5 @@
-use mathlib.Core.Path.{_≡_, refl, _∙_, ap}
-use Prim.Native.Nat.{ℕ, _≤_, _<_, _-_, _+_, _*_}
+use mathlib.Core.Path.{_≡_, _∙_}
+use Prim.Native.Nat.{_≤_, _<_, _-_, _+_, _*_}
 use native.Mathlib.Omega.{arith}
 use borrow.Author.Needs.{needs}
 use lib.IntN.{pos}
@@ -9,7 +9,7 @@ use mir.Facts.{toZ-ofZ}
 use Rattle.whole.specs.Loops.{times}
 use Rattle.whole.specs.Round.{Round2}
 use Rattle.whole.proofs.Loops.{loops, times-more}
-use Rattle.blocks.specs.Block.{put, FirstWithin}
+use Rattle.blocks.specs.Block.{put}
 use Rattle.blocks.proofs.store_rounded.Statement.{statement}
 use Rattle.blocks.proofs.store_rounded.Tie as tie
 use Rattle.blocks.proofs.store_rounded.Reads as reads

@@ -1,7 +1,7 @@
 use mathlib.Core.Path.{_≡_, sym, ap, _∙_}
 use mathlib.Core.Bool.{false}
 use mathlib.Core.List.{List}
-use Prim.Native.Nat.{_*_, _^_, _≤_}
+use Prim.Native.Nat.{_^_, _≤_}
 use native.Mathlib.Nat.{mul-le-mul}
 use native.Mathlib.Omega.{arith}
 use borrow.Author.Needs.{needs}
@@ -10,7 +10,7 @@ use lib.ListN.{length}
 use Rattle.answers.specs.declared.Answer.the-variants.{Done, Coefficient}
 use Rattle.answers.specs.Bad.{anyBeyond}
 use Rattle.answers.specs.Limits.{COEF_LIMIT}
-use Rattle.blocks.specs.Block.{rows, columns, rowsThenColumns, FirstWithin}
+use Rattle.blocks.specs.Block.{rows, columns, rowsThenColumns}
 use Rattle.blocks.specs.Inverse.{apply, rowPass, columnPass, rounding, inverse2d, Possible}
 use Rattle.blocks.proofs.Passes.{row-valid}
 use Rattle.blocks.proofs.Blocks.{rows-length}

@@ -1,7 +1,6 @@
 use mathlib.Core.Path.{_≡_}
 use native.Mathlib.Omega.{arith}
 use borrow.Author.Needs.{needs}
-use Rattle.dct.proofs.Dct.{two-to-five}
 use Rattle.idct.proofs.side.Statement.{statement}
 use Rattle.idct.proofs.side.Tie as tie
 

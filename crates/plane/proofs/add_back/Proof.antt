@@ -1,5 +1,5 @@
 -- `plane::add_back` meets its contract.
-use mathlib.Core.Path.{_≡_, sym, _∙_}
+use mathlib.Core.Path.{sym, _∙_}
 use lib.IntN.{pos}
 use lib.ListN.{getD}
 use Prim.Native.Nat.{_+_, _*_}

@@ -1,14 +1,12 @@
 -- `plane::add_row` meets its contract.
-use mathlib.Core.Path.{_≡_, refl, sym, ap, _∙_}
-use Prim.Native.Nat.{ℕ, _+_, _≤_, _<_, _-_, _^_}
+use mathlib.Core.Path.{_≡_, refl}
+use Prim.Native.Nat.{ℕ, _+_, _≤_, _<_, _-_}
 use native.Mathlib.Omega.{arith}
 use lib.Dec.{lit<}
 use lib.IntN.{pos}
 use lib.ListN.{length, getD, length-set}
 use mir.Syntax.{w64}
 use borrow.Author.Needs.{needs}
-use Rattle.whole.proofs.Signed.{rd}
-use Rattle.whole.specs.Within.{AllWithin}
 use Rattle.whole.proofs.Within.{back}
 use Rattle.plane.specs.Plane.{rowAfter}
 use Rattle.plane.proofs.Row.{row-none, row-more}

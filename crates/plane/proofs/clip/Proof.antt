@@ -4,7 +4,6 @@ use lib.IntN.{ℤ, pos, _+ℤ_}
 use borrow.Author.Needs.{needs}
 use mir.Syntax.{w64}
 use mir.Val.{toZ, ofZ}
-use mir.ValLaws.{toZ-ofZ}
 use Rattle.whole.specs.Parts.{P}
 use Rattle.whole.proofs.Signed.{rd-ok}
 use Rattle.plane.proofs.Sum.{sample-is, sum-fits, sum-is, above, within, within-fits}

@@ -1,4 +1,4 @@
-use mathlib.Core.Path.{_≡_, sym, ap, _∙_}
+use mathlib.Core.Path.{_≡_, ap, _∙_}
 use Prim.Native.Nat.{ℕ, _+_, _*_, _/_, _^_, _≤_}
 use native.Mathlib.Omega.{arith}
 use borrow.Author.Needs.{needs}
@@ -11,7 +11,7 @@ use Rattle.whole.specs.Within.{Within}
 use Rattle.whole.proofs.Round.{round2-within}
 use Rattle.whole.proofs.Within.{within-le, within-mul, within-lit}
 use Rattle.steps.specs.Step.{turned}
-use Rattle.blocks.specs.Inverse.{bits, dcOnly}
+use Rattle.blocks.specs.Inverse.{dcOnly}
 use Rattle.idct.proofs.fast.dc_value.Statement.{statement}
 use Rattle.idct.proofs.fast.dc_value.Tie as tie
 

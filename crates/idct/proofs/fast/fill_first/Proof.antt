@@ -1,4 +1,4 @@
-use mathlib.Core.Path.{_≡_, refl, _∙_}
+use mathlib.Core.Path.{_≡_, refl}
 use Prim.Native.Nat.{_-_, _≤_}
 use native.Mathlib.Omega.{arith}
 use borrow.Author.Needs.{needs}
@@ -7,7 +7,7 @@ use mir.Syntax.{w64}
 use mir.Val.{toZ}
 use mir.Facts.{toZ-ofZ}
 use Rattle.whole.specs.Lists.{fill}
-use Rattle.whole.proofs.Lists.{fill-none, fill-more, fill-done}
+use Rattle.whole.proofs.Lists.{fill-none, fill-more}
 use Rattle.idct.proofs.fast.fill_first.Statement.{statement}
 use Rattle.idct.proofs.fast.fill_first.Tie as tie
 

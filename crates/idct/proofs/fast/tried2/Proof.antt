@@ -1,4 +1,4 @@
-use mathlib.Core.Path.{_≡_, sym, _∙_}
+use mathlib.Core.Path.{_≡_}
 use mathlib.Core.Bool.{false}
 use borrow.Author.Needs.{needs}
 use borrow.Author.Tests.{not-false}
@@ -14,7 +14,7 @@ abbrev given : tie.Start → Input
 given s = record { block = s .args .block .now; n = 2; type = s .args .tx-type; lossless = false }
 
 within : (c : tie.Else1) → anyBeyond COEF_LIMIT 16 (c .before .before .before .args .block .now) ≡ false
-within c = c .before .near .ensures (not-false _ (c .if1 .left))
+within c = c .before .surely-within .ensures (not-false _ (c .if1 .left))
 
 inverse4-requires : tie.Need-inverse4-requires
 inverse4-requires c κs = let s = c .before .before .before .before in (s .pre, in-range 16 (s .args .block .now) (within (c .before)))

@@ -1,6 +1,6 @@
 use mathlib.Core.Path.{_≡_, sym, _∙_}
-use mathlib.Core.Bool.{true, false}
-use Prim.Native.Nat.{ℕ, _*_, _^_, _≤_, _<_}
+use mathlib.Core.Bool.{false}
+use Prim.Native.Nat.{_*_}
 use native.Mathlib.Nat.{mul-le-mul}
 use native.Mathlib.Omega.{arith}
 use borrow.Author.Needs.{needs}
@@ -10,7 +10,7 @@ use mir.Val.{Fits}
 use mir.Facts.{toZ-ofZ}
 use Rattle.answers.specs.Bad.{anyBeyond}
 use Rattle.answers.specs.Limits.{COEF_LIMIT}
-use Rattle.idct.specs.Driver.{Input, area, onlyDc}
+use Rattle.idct.specs.Driver.{Input, area}
 use Rattle.idct.proofs.Answers.{made, left, in-range, Alone, alone, area-some, area-more, dc-beyond, dc-written}
 use Rattle.idct.proofs.fast.tried_large.Statement.{statement}
 use Rattle.idct.proofs.fast.tried_large.Tie as tie
@@ -59,11 +59,11 @@ returns-2 c =
     made (given s) _ (first (e .before) ∙ e .if2 .left)
     (dc-written (s .args .n) (s .args .block .now) (s .pre .0 .least) (s .pre .0 .most) (s .pre .1) (only w .dead) (only w .zero-type) (rw (b .side .ensures .0) at (c .before .dc-fill .ensures)))
 
-near-requires : tie.Need-near-requires
-near-requires c κs = let b = c .before .before .before .before in rw (b .side .ensures .0) (b .before .pre .1)
+surely-within-requires : tie.Need-surely-within-requires
+surely-within-requires c κs = let b = c .before .before .before .before in rw (b .side .ensures .0) (b .before .pre .1)
 
 within : (c : tie.Else3) → let s = c .before .before .before .before .before .before .before in anyBeyond COEF_LIMIT (area (s .args .n)) (s .args .block .now) ≡ false
-within c = let b = c .before .before .before .before .before .before in rw (b .side .ensures .0) at (c .before .near .ensures (not-false _ (c .if3 .left)))
+within c = let b = c .before .before .before .before .before .before in rw (b .side .ensures .0) at (c .before .surely-within .ensures (not-false _ (c .if3 .left)))
 
 both-passes-requires : tie.Need-both-passes-requires
 both-passes-requires c κs =
@@ -90,7 +90,7 @@ tried-large-spec =
     (λ c. search needs)
     returns-2
     (λ c. all-fits (c .before .before .before .before))
-    near-requires
+    surely-within-requires
     (λ c. search needs)
     (λ c. left (given (c .before .before .before .before .before .before .before)))
     both-passes-requires

@@ -1,4 +1,3 @@
-use mathlib.Core.Path.{_≡_}
 use borrow.Author.Needs.{needs}
 use Rattle.idct.proofs.Answers.{any-tried}
 use Rattle.idct.proofs.fast.tried_small.Statement.{statement}

@@ -7,7 +7,7 @@ use lib.ListN.{getD}
 use Rattle.blocks.specs.Block.{rows}
 use Rattle.blocks.specs.Inverse.{Wht, apply, Safe}
 use Rattle.blocks.proofs.Live.{dead-at}
-use Rattle.blocks.proofs.Turns.{Job, rows-job, Turn, turn-none, turn-safe, turn-next, turn-dead, turn-done}
+use Rattle.blocks.proofs.Turns.{Job, rows-job, turn-none, turn-safe, turn-next, turn-dead, turn-done}
 use Rattle.idct.proofs.fast.wht_first_row.Statement.{statement}
 use Rattle.idct.proofs.fast.wht_first_row.Tie as tie
 

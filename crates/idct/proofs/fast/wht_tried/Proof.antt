@@ -1,16 +1,13 @@
 use mathlib.Core.Path.{_≡_, refl, sym, _∙_}
 use mathlib.Core.Logic.{⊎-elim}
 use mathlib.Core.Bool.{true, false}
-use Prim.Native.Nat.{ℕ, _+_, _-_, _*_, _≤_, _<_}
+use Prim.Native.Nat.{_+_, _-_, _≤_, _<_}
 use native.Mathlib.Omega.{arith}
 use borrow.Author.Needs.{needs}
 use borrow.Author.Tests.{not-true}
-use lib.IntN.{pos, natAbs}
-use lib.ListN.{getD}
 use Rattle.answers.specs.Bad.{anyBeyond}
 use Rattle.answers.specs.Limits.{COEF_LIMIT}
 use Rattle.answers.proofs.Passed.{all-within}
-use Rattle.blocks.specs.Block.{live}
 use Rattle.blocks.specs.Inverse.{Wht, rounding}
 use Rattle.blocks.proofs.Places.{le-or-lt}
 use Rattle.blocks.proofs.Near.{or-left, or-right}

@@ -1,5 +1,5 @@
 use mathlib.Core.Bool.{cond}
-use Prim.Native.Nat.{_*_, _-_, _^_}
+use Prim.Native.Nat.{_-_, _^_}
 use native.Mathlib.Omega.{arith}
 use borrow.Author.Needs.{needs}
 use Rattle.blocks.specs.Block.{columns}

@@ -1,5 +1,4 @@
 use borrow.Author.Needs.{needs}
-use mathlib.Core.Path.{_≡_, _∙_}
 use Rattle.whole.proofs.Steps.{left-last}
 use Rattle.whole.specs.Steps.{Left}
 use Prim.Native.Nat.{_^_}
