@@ -27,7 +27,7 @@ pub extern "C" fn bracetwill_inverse_transform_2d(
     tx_type: u8,
     lossless: bool,
 ) -> u32
-    ensures { λ r. ⌜ Told answerOf blockAfter (record { block = now (block .entry); n = n; type = «tx_type»; lossless = lossless }) r (now (block .exit)) ⌝ }
+    ensures { λ r. ⌜ Told answerOf blockAfter (record { block = now (block .entry); n = n; kind = «tx_type»; lossless = lossless }) r (now (block .exit)) ⌝ }
 {
     let a = idct::inverse_transform_2d(block, n, tx_type, lossless);
     answers::code(a)
@@ -41,7 +41,7 @@ pub extern "C" fn bracetwill_inverse_transform_2d_reference(
     tx_type: u8,
     lossless: bool,
 ) -> u32
-    ensures { λ r. ⌜ Told answerOf blockAfter (record { block = now (block .entry); n = n; type = «tx_type»; lossless = lossless }) r (now (block .exit)) ⌝ }
+    ensures { λ r. ⌜ Told answerOf blockAfter (record { block = now (block .entry); n = n; kind = «tx_type»; lossless = lossless }) r (now (block .exit)) ⌝ }
 {
     let a = idct::inverse_transform_2d_reference(block, n, tx_type, lossless);
     answers::code(a)

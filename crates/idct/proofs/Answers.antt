@@ -91,14 +91,14 @@ pub any-type : (n type : ℕ) (s : List ℤ) → inverse2d n 0 true s ≡ invers
 unfolding inverse2d
 any-type n type s = refl
 
-pub any-tried : (n type : ℕ) (s : List ℤ) {made : Bool} {after : List ℤ} → Tried (record { block = s; n = n; type = 0; lossless = true }) made after
-    → Tried (record { block = s; n = n; type = type; lossless = true }) made after
+pub any-tried : (n type : ℕ) (s : List ℤ) {made : Bool} {after : List ℤ} → Tried (record { block = s; n = n; kind = 0; lossless = true }) made after
+    → Tried (record { block = s; n = n; kind = type; lossless = true }) made after
 unfolding inverse2d
 any-tried n type s h = record { under = h .under; written = h .written; left = h .left }
 
 -- ---- the answer from its two parts
 shape : Input → ℕ
-shape u = shapeOf (length (u .block)) (u .n) (u .type) (u .lossless)
+shape u = shapeOf (length (u .block)) (u .n) (u .kind) (u .lossless)
 
 beyond : Input → Bool
 beyond u = anyBeyond COEF_LIMIT (area (u .n)) (u .block)
@@ -113,11 +113,11 @@ parts false false false false e = refl
 answer-is : (u : Input) → answerOf u ≡ cond (eqb (shape u) 0) (cond (beyond u) 9 0) (shape u)
 unfolding answerOf shape shapeOf beyond
 answer-is u =
-    parts (badSide (u .n)) (badLossless (u .lossless) (u .n - 2)) (badKind (u .lossless) (u .n - 2) (u .type)) (badRoom (length (u .block)) (u .n))
+    parts (badSide (u .n)) (badLossless (u .lossless) (u .n - 2)) (badKind (u .lossless) (u .n - 2) (u .kind)) (badRoom (length (u .block)) (u .n))
     (anyBeyond COEF_LIMIT (area (u .n)) (u .block))
 
 -- a refusal before the numbers: the block stays
-pub refused : (u : Input) (a : Answer) → number a ≡ shapeOf (length (u .block)) (u .n) (u .type) (u .lossless) → (number a ≡ 0 → ⊥) → Driven u a (u .block)
+pub refused : (u : Input) (a : Answer) → number a ≡ shapeOf (length (u .block)) (u .n) (u .kind) (u .lossless) → (number a ≡ 0 → ⊥) → Driven u a (u .block)
 unfolding shape blockAfter
 refused u a e h =
     let f : eqb (shape u) 0 ≡ false = ne-eqb (shape u) 0 (λ q. h (e ∙ q)) in
@@ -127,39 +127,39 @@ refused u a e h =
 -- past them: by what is beyond, 0 or 9
 pub record Checked (u : Input) (answer : Answer) (after : List ℤ) : Type 0 where
   pub answered : number answer ≡ cond (anyBeyond COEF_LIMIT (area (u .n)) (u .block)) 9 0
-  pub written : after ≡ cond (anyBeyond COEF_LIMIT (area (u .n)) (u .block)) (u .block) (inverse2d (u .n) (u .type) (u .lossless) (u .block))
+  pub written : after ≡ cond (anyBeyond COEF_LIMIT (area (u .n)) (u .block)) (u .block) (inverse2d (u .n) (u .kind) (u .lossless) (u .block))
 
 by-beyond : (b : Bool) (l m : List ℤ) → cond b l m ≡ cond (eqb (cond b 9 0) 0) m l
 by-beyond true l m = refl
 by-beyond false l m = refl
 
-pub driven : (u : Input) (a : Answer) (after : List ℤ) → shapeOf (length (u .block)) (u .n) (u .type) (u .lossless) ≡ 0 → Checked u a after → Driven u a after
+pub driven : (u : Input) (a : Answer) (after : List ℤ) → shapeOf (length (u .block)) (u .n) (u .kind) (u .lossless) ≡ 0 → Checked u a after → Driven u a after
 unfolding shape beyond blockAfter
 driven u a after e h =
     let f : eqb (shape u) 0 ≡ true = eq-eqb (shape u) 0 e in
     let g : answerOf u ≡ cond (beyond u) 9 0 = answer-is u ∙ rw f in
-    record { answered = h .answered ∙ sym g; written = h .written ∙ rw g (by-beyond (beyond u) (u .block) (inverse2d (u .n) (u .type) (u .lossless) (u .block))) }
+    record { answered = h .answered ∙ sym g; written = h .written ∙ rw g (by-beyond (beyond u) (u .block) (inverse2d (u .n) (u .kind) (u .lossless) (u .block))) }
 
 -- ---- the limit passed or not
 pub over : (u : Input) → anyBeyond COEF_LIMIT (area (u .n)) (u .block) ≡ true → Checked u Coefficient (u .block)
 over u h = record { answered = rw h; written = rw h }
 
-pub under : (u : Input) (after : List ℤ) → anyBeyond COEF_LIMIT (area (u .n)) (u .block) ≡ false → after ≡ inverse2d (u .n) (u .type) (u .lossless) (u .block) → Checked u Done after
+pub under : (u : Input) (after : List ℤ) → anyBeyond COEF_LIMIT (area (u .n)) (u .block) ≡ false → after ≡ inverse2d (u .n) (u .kind) (u .lossless) (u .block) → Checked u Done after
 under u after h e = record { answered = rw h; written = rw h e }
 
 -- ---- the fast engine: the residual made, or the block left
-pub made : (u : Input) (after : List ℤ) → anyBeyond COEF_LIMIT (area (u .n)) (u .block) ≡ false → after ≡ inverse2d (u .n) (u .type) (u .lossless) (u .block) → Tried u true after
+pub made : (u : Input) (after : List ℤ) → anyBeyond COEF_LIMIT (area (u .n)) (u .block) ≡ false → after ≡ inverse2d (u .n) (u .kind) (u .lossless) (u .block) → Tried u true after
 made u after h e = record { under = λ _. h; written = λ _. e; left = λ q. never q }
 
 pub left : (u : Input) → Tried u false (u .block)
 left u = record { under = λ q. never (sym q); written = λ q. never (sym q); left = λ _. refl }
 
 -- made, it is what the drivers promise; left, the block is as it was for the reference
-pub driven-made : (u : Input) {b : Bool} {after : List ℤ} → shapeOf (length (u .block)) (u .n) (u .type) (u .lossless) ≡ 0 → b ≡ true → Tried u b after → Driven u Done after
+pub driven-made : (u : Input) {b : Bool} {after : List ℤ} → shapeOf (length (u .block)) (u .n) (u .kind) (u .lossless) ≡ 0 → b ≡ true → Tried u b after → Driven u Done after
 driven-made u {b} {after} e q t = driven u Done after e (under u after (t .under q) (t .written q))
 
 pub driven-left : (u : Input) {b : Bool} {s after : List ℤ} {a : Answer} → b ≡ false → Tried u b s
-    → Driven (record { block = s; n = u .n; type = u .type; lossless = u .lossless }) a after → Driven u a after
+    → Driven (record { block = s; n = u .n; kind = u .kind; lossless = u .lossless }) a after → Driven u a after
 driven-left u q t d = rw (t .left q) at d
 
 -- sizes above 4 by 4 are not lossless
@@ -174,8 +174,8 @@ module _ (s : List ℤ) (n type : ℕ) (lossless : Bool) (e : shapeOf (length s)
   pub large-fine : Possible n type false × (area n ≤ length s)
   large-fine = rw lossy-is at (possible (length s) n type lossless e)
 
-  pub as-lossy : {b : Bool} {after : List ℤ} → Tried (record { block = s; n = n; type = type; lossless = false }) b after
-      → Tried (record { block = s; n = n; type = type; lossless = lossless }) b after
+  pub as-lossy : {b : Bool} {after : List ℤ} → Tried (record { block = s; n = n; kind = type; lossless = false }) b after
+      → Tried (record { block = s; n = n; kind = type; lossless = lossless }) b after
   as-lossy t = rw lossy-is t
 
 -- a block within the limit is within what the transforms take
@@ -184,7 +184,7 @@ in-range n l h = record { each = λ k q. within-le (omega arith) (none-within CO
 
 -- ---- the DC-only case
 pub record Alone (n type : ℕ) (block : List ℤ) : Type 0 where
-  pub zero-type : type ≡ 0
+  pub zero-kind : type ≡ 0
   pub dead : live 1 (area n - 1) block ≡ false
 
 pub alone : (n type : ℕ) (block : List ℤ) → onlyDc (area n) type block ≡ true → Alone n type block
@@ -194,7 +194,7 @@ alone n type block h = go (eqb type 0) (live 1 (area n - 1) block) refl refl
     go : (b c : Bool) → eqb type 0 ≡ b → live 1 (area n - 1) block ≡ c → Alone n type block
     go false c q r = never (sym (rw q at h))
     go true true q r = never (sym (rw (q, r) at h))
-    go true false q r = record { zero-type = eqb-true type 0 q; dead = r }
+    go true false q r = record { zero-kind = eqb-true type 0 q; dead = r }
 
 pub area-some : (n : ℕ) → 1 ≤ area n
 area-some n = mul-le-mul (pow-pos n) (pow-pos n)

@@ -43,13 +43,13 @@ driver-has : (u : D.Input) (n : ℕ) → W.Driver u n
     → Applies n
     ((2, D.badSide (u .n))
     ∷ (3, badLossless (u .lossless) (u .n - 2))
-    ∷ (4, badKind (u .lossless) (u .n - 2) (u .type))
+    ∷ (4, badKind (u .lossless) (u .n - 2) (u .kind))
     ∷ (6, D.badRoom (length (u .block)) (u .n))
     ∷ (9, anyBeyond COEF_LIMIT (D.area (u .n)) (u .block))
     ∷ [])
 driver-has u n (W.side h) = here-if 2 _ _ (side-test (u .n) h)
 driver-has u n (W.lossless h) = there (here-if 3 _ _ (T.lossless-test (u .lossless) (u .n - 2) h))
-driver-has u n (W.kind h) = there (there (here-if 4 _ _ (T.kind-test (u .lossless) (u .n - 2) (u .type) h)))
+driver-has u n (W.kind h) = there (there (here-if 4 _ _ (T.kind-test (u .lossless) (u .n - 2) (u .kind) h)))
 driver-has u n (W.room h) = there (there (there (here-if 6 _ _ (lt-ltb (length (u .block)) (D.area (u .n)) h))))
 driver-has u n (W.coefficient h) = there (there (there (there (here-if 9 _ _ (T.beyond-test COEF_LIMIT (D.area (u .n)) (u .block) h)))))
 
@@ -59,7 +59,7 @@ driver-exactly u =
     exactly (W.Driver u) _ tt
     (more (λ e. W.side (no-side (u .n) e))
     (more (λ e. W.lossless (T.lossless-at (u .lossless) (u .n - 2) e))
-    (more (λ e. W.kind (T.no-kind (u .lossless) (u .n - 2) (u .type) e))
+    (more (λ e. W.kind (T.no-kind (u .lossless) (u .n - 2) (u .kind) e))
     (more (λ e. W.room (ltb-true (length (u .block)) (D.area (u .n)) e))
     (more (λ e. W.coefficient (T.some-beyond COEF_LIMIT (D.area (u .n)) (u .block) e)) none)))))
     (driver-has u)

@@ -19,7 +19,7 @@ use Rattle.promises.specs.Conditions.{NoDepth, LosslessAt, NoKind, NoQua
 pub data Driver (u : D.Input) : ℕ → Type 0 where
   side : (2 ≤ u .n → u .n ≤ 5 → ⊥) → Driver u 2
   lossless : LosslessAt (u .lossless) (u .n - 2) → Driver u 3
-  kind : NoKind (u .lossless) (u .n - 2) (u .type) → Driver u 4
+  kind : NoKind (u .lossless) (u .n - 2) (u .kind) → Driver u 4
   room : length (u .block) < D.area (u .n) → Driver u 6
   coefficient : SomeBeyond COEF_LIMIT (D.area (u .n)) (u .block) → Driver u 9
 

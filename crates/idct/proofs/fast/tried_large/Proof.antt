@@ -17,7 +17,7 @@ use Rattle.idct.proofs.fast.tried_large.Tie as tie
 
 -- what the call is given
 abbrev given : tie.Start → Input
-given s = record { block = s .args .block .now; n = s .args .n; type = s .args .tx-type; lossless = false }
+given s = record { block = s .args .block .now; n = s .args .n; kind = s .args .tx-type; lossless = false }
 
 -- numbers of the block
 all-fits : (c : tie.After-side) → Fits w64 (c .side .result * c .side .result)
@@ -57,7 +57,7 @@ returns-2 c =
     let b = w .before .before .before in
     let s = b .before in
     made (given s) _ (first (e .before) ∙ e .if2 .left)
-    (dc-written (s .args .n) (s .args .block .now) (s .pre .0 .least) (s .pre .0 .most) (s .pre .1) (only w .dead) (only w .zero-type) (rw (b .side .ensures .0) at (c .before .dc-fill .ensures)))
+    (dc-written (s .args .n) (s .args .block .now) (s .pre .0 .least) (s .pre .0 .most) (s .pre .1) (only w .dead) (only w .zero-kind) (rw (b .side .ensures .0) at (c .before .dc-fill .ensures)))
 
 surely-within-requires : tie.Need-surely-within-requires
 surely-within-requires c κs = let b = c .before .before .before .before in rw (b .side .ensures .0) (b .before .pre .1)
