@@ -1,12 +1,13 @@
 -- A scan for a number that is not 0: as the code builds it up, and what it says of each number.
 use mathlib.Core.Path.{_≡_, refl, sym, ap, _∙_}
-use mathlib.Core.Bool.{Bool, true, false}
+use mathlib.Core.Bool.{Bool, true, false, not}
 use mathlib.Core.List.{List}
 use Prim.Native.Nat.{ℕ, zero, suc, _+_, _-_, _≤_, _<_}
 use native.Mathlib.Numerals.{add-one}
 use native.Mathlib.Omega.{arith}
-use borrow.Author.Tests.{lt-ltb, ltb-false}
-use lib.Dec.{ltb}
+use borrow.Author.Tests.{lt-ltb, ltb-false, ne-eqb}
+use lib.Dec.{ltb, eqb}
+use lib.Bits.{bitOr, or-add-and, and-le-l, and-le-r}
 use lib.IntN.{ℤ, pos, negsuc, natAbs}
 use lib.ListN.{getD}
 use mir.Syntax.{w64}
@@ -72,3 +73,27 @@ pub live-rest : (start n : ℕ) (s : List ℤ) {b : Bool} → 1 ≤ n → SFits 
 live-rest start n s l f h e =
     let q : suc (n - 1) ≡ n = omega arith in
     e ∙ rw q at (rest-live start (n - 1) s (zero-bits f h))
+
+-- all bits or-ed together
+pub counted : (n : ℕ) → not (eqb n 0) ≡ ltb 0 n
+counted zero = refl
+counted (suc n) = rw (ne-eqb (suc n) 0 (λ e. absurd (omega arith)), lt-ltb 0 (suc n) (omega arith))
+
+pub or-live-none : (start : ℕ) (s : List ℤ) → ltb 0 0 ≡ live start 0 s
+unfolding live anyBelow
+or-live-none start s = refl
+
+pub or-live-more : (start : ℕ) (s : List ℤ) (k all b : ℕ) → (b ≡ 0 → getD s (start + k) (pos 0) ≡ pos 0) → (getD s (start + k) (pos 0) ≡ pos 0 → b ≡ 0)
+    → ltb 0 all ≡ live start k s → ltb 0 (bitOr all b) ≡ live start (k + 1) s
+unfolding live
+or-live-more start s k all zero f g h =
+    let e : bitOr all 0 ≡ all = omega (arith, or-add-and all 0, and-le-r all 0) in
+    any-next (λ k. ltb 0 (natAbs (getD s (start + k) (pos 0)))) k (ap (ltb 0) e ∙ h) (zero-not (f refl))
+or-live-more start s k all (suc b) f g h =
+    lt-ltb 0 (bitOr all (suc b)) (omega (arith, or-add-and all (suc b), and-le-l all (suc b)))
+    ∙ sym (any-hit (λ k. ltb 0 (natAbs (getD s (start + k) (pos 0)))) k (k + 1) (omega arith) (not-zero (getD s (start + k) (pos 0)) (λ e. absurd (omega (arith, g e)))))
+  where
+    not-zero : (z : ℤ) → (z ≡ pos 0 → ⊥) → ltb 0 (natAbs z) ≡ true
+    not-zero (pos zero) q = absurd (q refl)
+    not-zero (pos (suc a)) q = lt-ltb 0 (suc a) (omega arith)
+    not-zero (negsuc a) q = lt-ltb 0 (suc a) (omega arith)

@@ -9,7 +9,7 @@ returns c = let s = c .before .before in live-first (s .args .start) (s .args .n
 returns-2 : tie.Need-returns-2
 returns-2 c =
     let s = c .before .before .before in
-    live-rest (s .args .start) (s .args .n) _ (s .pre .0) (record { sfits = c .before .before .if12 .given }) (c .before .if1 .left) (c .any-live .ensures)
+    live-rest (s .args .start) (s .args .n) _ (s .pre .0) (record { sfits = c .before .before .if12 .given }) (c .before .if1 .left) (c .or-live .ensures)
 
 pub any-live-first-spec : {M : Type 1} → statement M
 any-live-first-spec =
