@@ -60,7 +60,7 @@ fn bits(x: i64) -> u64
     x as u64
 }
 
-// As any_live: all numbers or-ed together, which is the quicker from some twenty on.
+// As any_live, with all numbers or-ed together: the quicker for long lines.
 fn or_live(s: &[i64], start: usize, n: usize) -> bool
     requires { ⌜ start + n ≤ length (now s) ⌝ }
     ensures { λ r. ⌜ r ≡ live start n (now (s .entry)) ⌝ }
