@@ -5,6 +5,7 @@ use crate::verdict::reached;
 use quant::AcQuant;
 use quant::DcQuant;
 
+// Kind 23: the block.
 pub fn forward_wht_2d(line: &[u8], at: usize, numbers: &mut [i64]) -> Verdict {
     let l = lines::read_list(line, at, numbers);
     let count = l.count;
@@ -12,6 +13,7 @@ pub fn forward_wht_2d(line: &[u8], at: usize, numbers: &mut [i64]) -> Verdict {
     answered(line, l.next, answer, at, &numbers[0..count])
 }
 
+// Kind 24: the two quantizers, size, depth and the coefficients.
 pub fn quantize_block_tx(line: &[u8], at: usize, numbers: &mut [i64]) -> Verdict {
     let dc = lines::read_signed32(line, at);
     let ac = lines::read_signed32(line, dc.next);
@@ -29,6 +31,7 @@ pub fn quantize_block_tx(line: &[u8], at: usize, numbers: &mut [i64]) -> Verdict
     answered(line, l.next, answer, depth.next, &numbers[0..count])
 }
 
+// Kind 25: the two quantizers and the coefficients.
 pub fn quantize_block(line: &[u8], at: usize, numbers: &mut [i64]) -> Verdict {
     let dc = lines::read_signed32(line, at);
     let ac = lines::read_signed32(line, dc.next);
@@ -42,6 +45,7 @@ pub fn quantize_block(line: &[u8], at: usize, numbers: &mut [i64]) -> Verdict {
     answered(line, l.next, answer, ac.next, &numbers[0..count])
 }
 
+// Kind 26: the depth.
 pub fn max_codeable_coef(line: &[u8], at: usize) -> Verdict {
     let depth = lines::read_unsigned32(line, at);
     reached(

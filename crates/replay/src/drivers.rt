@@ -2,6 +2,7 @@
 use crate::verdict::Verdict;
 use crate::verdict::answered;
 
+// Kind 20: n, type, lossless and the block.
 pub fn inverse_transform_2d(line: &[u8], at: usize, numbers: &mut [i64]) -> Verdict {
     let n = lines::read_unsigned32(line, at);
     let kind = lines::read_unsigned8(line, n.next);
@@ -17,6 +18,7 @@ pub fn inverse_transform_2d(line: &[u8], at: usize, numbers: &mut [i64]) -> Verd
     answered(line, l.next, answer, lossless.next, &numbers[0..count])
 }
 
+// Kind 21: the same of the reference driver.
 pub fn inverse_transform_2d_reference(line: &[u8], at: usize, numbers: &mut [i64]) -> Verdict {
     let n = lines::read_unsigned32(line, at);
     let kind = lines::read_unsigned8(line, n.next);

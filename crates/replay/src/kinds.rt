@@ -6,6 +6,7 @@ use crate::rows;
 use crate::verdict::Verdict;
 use crate::verdict::reached;
 
+// What a line of a kind comes to, from the place past its kind.
 pub fn verdict(kind: usize, line: &[u8], at: usize, numbers: &mut [i64]) -> Verdict {
     match kind {
         1 => parts::round2(line, at),

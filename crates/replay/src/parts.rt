@@ -21,6 +21,7 @@ const WIDE: u64 = 2305843009213693952;
 // 2^62: what Round2 takes.
 const ROUNDED: u64 = 4611686018427387904;
 
+// Kind 1.
 pub fn round2(line: &[u8], at: usize) -> Verdict {
     let x = lines::read_signed(line, at);
     let k = lines::read_unsigned32(line, x.next);
@@ -40,6 +41,7 @@ pub fn round2(line: &[u8], at: usize) -> Verdict {
     )
 }
 
+// Kind 2.
 pub fn brev(line: &[u8], at: usize) -> Verdict {
     let bits = lines::read_unsigned32(line, at);
     let x = lines::read_unsigned(line, bits.next);
@@ -53,6 +55,7 @@ pub fn brev(line: &[u8], at: usize) -> Verdict {
     )
 }
 
+// Kind 3.
 pub fn cos64(line: &[u8], at: usize) -> Verdict {
     let angle = lines::read_signed32(line, at);
     reached(
@@ -61,6 +64,7 @@ pub fn cos64(line: &[u8], at: usize) -> Verdict {
     )
 }
 
+// Kind 4.
 pub fn sin64(line: &[u8], at: usize) -> Verdict {
     let angle = lines::read_signed32(line, at);
     reached(
@@ -94,6 +98,7 @@ fn both_near(list: &[i64], count: usize, a: usize, b: usize, most: u64) -> bool
     false
 }
 
+// Kind 5: B on T.
 pub fn butterfly(line: &[u8], at: usize) -> Verdict {
     let a = lines::read_unsigned(line, at);
     let b = lines::read_unsigned(line, a.next);
@@ -110,6 +115,7 @@ pub fn butterfly(line: &[u8], at: usize) -> Verdict {
     outside(next)
 }
 
+// Kind 6: H on T.
 pub fn hadamard(line: &[u8], at: usize) -> Verdict {
     let a = lines::read_unsigned(line, at);
     let b = lines::read_unsigned(line, a.next);
@@ -125,6 +131,7 @@ pub fn hadamard(line: &[u8], at: usize) -> Verdict {
     outside(next)
 }
 
+// Kind 7: SB from T into S.
 pub fn sb(line: &[u8], at: usize) -> Verdict {
     let a = lines::read_unsigned(line, at);
     let b = lines::read_unsigned(line, a.next);
@@ -143,6 +150,7 @@ pub fn sb(line: &[u8], at: usize) -> Verdict {
     outside(next)
 }
 
+// Kind 8: SH from S into T.
 pub fn sh(line: &[u8], at: usize) -> Verdict {
     let a = lines::read_unsigned(line, at);
     let b = lines::read_unsigned(line, a.next);

@@ -30,6 +30,7 @@ fn all_near(list: &[i64], count: usize, most: u64) -> bool
     !any_beyond(list, count, most)
 }
 
+// Kind 10: one row through the recursive DCT.
 pub fn inverse_dct(line: &[u8], at: usize) -> Verdict {
     let n = lines::read_unsigned32(line, at);
     let mut t = [0i64; 32];
@@ -49,6 +50,7 @@ pub fn inverse_dct(line: &[u8], at: usize) -> Verdict {
     outside(next)
 }
 
+// Kind 11: one row through the ADST.
 pub fn inverse_adst(line: &[u8], at: usize) -> Verdict {
     let n = lines::read_unsigned32(line, at);
     let mut t = [0i64; 32];
@@ -67,6 +69,7 @@ pub fn inverse_adst(line: &[u8], at: usize) -> Verdict {
     outside(next)
 }
 
+// Kind 12: four numbers through the WHT.
 pub fn inverse_wht(line: &[u8], at: usize) -> Verdict {
     let shift = lines::read_unsigned32(line, at);
     let mut row = [0i64; 4];

@@ -11,6 +11,7 @@ const SKIPPED: usize = 2;
 
 const FIRST: usize = 3;
 
+// No line yet.
 pub fn none() -> [u64; 128] {
     [0; 128]
 }
