@@ -9,20 +9,20 @@ use lib.ListN.{getD}
 use Rattle.whole.specs.Tests.{both}
 use Rattle.whole.proofs.Tests.{b₁, b₂}
 use Rattle.answers.specs.declared.Answer.{Answer}
-use Rattle.answers.specs.declared.Answer.the-variants.{Done, Depth, Size, LosslessSize, Kind, Quantizer, Length, Plane, Token, Coefficient, Mark, Version, CutShort, TooLarge, LosslessByte}
+use Rattle.answers.specs.declared.Answer.the-variants.{Done, Depth, Size, LosslessSize, TxType, Quantizer, Length, Plane, Token, Coefficient, Mark, Version, CutShort, TooLarge, LosslessByte}
 use Rattle.answers.specs.Answers.{number, lowest}
 
 -- the answer of a number
 abbrev pub numbered : ℕ → Answer
 numbered n =
-    getD (Done ∷ Depth ∷ Size ∷ LosslessSize ∷ Kind ∷ Quantizer ∷ Length ∷ Plane ∷ Token ∷ Coefficient ∷ Mark ∷ Version ∷ CutShort ∷ TooLarge ∷ LosslessByte ∷ []) n Done
+    getD (Done ∷ Depth ∷ Size ∷ LosslessSize ∷ TxType ∷ Quantizer ∷ Length ∷ Plane ∷ Token ∷ Coefficient ∷ Mark ∷ Version ∷ CutShort ∷ TooLarge ∷ LosslessByte ∷ []) n Done
 
 pub numbered-number : (a : Answer) → numbered (number a) ≡ a
 numbered-number Done = refl
 numbered-number Depth = refl
 numbered-number Size = refl
 numbered-number LosslessSize = refl
-numbered-number Kind = refl
+numbered-number TxType = refl
 numbered-number Quantizer = refl
 numbered-number Length = refl
 numbered-number Plane = refl

@@ -3,7 +3,7 @@ use mathlib.Core.Bool.{Bool, cond}
 use mathlib.Core.List.{List, [], _∷_}
 use Prim.Native.Nat.{ℕ}
 use Rattle.answers.specs.declared.Answer.{Answer}
-use Rattle.answers.specs.declared.Answer.the-variants.{Done, Depth, Size, LosslessSize, Kind, Quantizer, Length, Plane, Token, Coefficient, Mark, Version, CutShort, TooLarge, LosslessByte}
+use Rattle.answers.specs.declared.Answer.the-variants.{Done, Depth, Size, LosslessSize, TxType, Quantizer, Length, Plane, Token, Coefficient, Mark, Version, CutShort, TooLarge, LosslessByte}
 
 -- the number of an answer
 abbrev pub number : Answer → ℕ
@@ -11,7 +11,7 @@ number Done = 0
 number Depth = 1
 number Size = 2
 number LosslessSize = 3
-number Kind = 4
+number TxType = 4
 number Quantizer = 5
 number Length = 6
 number Plane = 7

@@ -22,8 +22,8 @@ unfoldable pub badLossless : Bool → ℕ → Bool
 badLossless lossless size = lossless && not (eqb size 0)
 
 -- 4: not lossless, and a type above 3, or 32 by 32 with a type other than 0
-unfoldable pub badKind : Bool → ℕ → ℕ → Bool
-badKind lossless size kind = not lossless && (ltb 3 kind || (eqb size 3 && not (eqb kind 0)))
+unfoldable pub badTxType : Bool → ℕ → ℕ → Bool
+badTxType lossless size tx-type = not lossless && (ltb 3 tx-type || (eqb size 3 && not (eqb tx-type 0)))
 
 -- 5: a quantizer outside 1 to 32,767
 unfoldable pub badQuantizer : ℤ → Bool

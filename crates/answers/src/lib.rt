@@ -3,7 +3,7 @@ ghost use Prim.Native.Nat.{_≤_};
 ghost use lib.IntN.{natAbs};
 ghost use lib.ListN.{length};
 ghost use Rattle.answers.specs.Answers.{number};
-ghost use Rattle.answers.specs.Bad.{badDepth, badSize, badLossless, badKind, anyBeyond};
+ghost use Rattle.answers.specs.Bad.{badDepth, badSize, badLossless, badTxType, anyBeyond};
 
 // The answers of all calls and of the VBK reader, in the order of their numbers, 0 to 14.
 pub enum Answer {
@@ -11,7 +11,7 @@ pub enum Answer {
     Depth,
     Size,
     LosslessSize,
-    Kind,
+    TxType,
     Quantizer,
     Length,
     Plane,
@@ -54,7 +54,7 @@ pub fn code(a: Answer) -> u32
         Answer::Depth => 1,
         Answer::Size => 2,
         Answer::LosslessSize => 3,
-        Answer::Kind => 4,
+        Answer::TxType => 4,
         Answer::Quantizer => 5,
         Answer::Length => 6,
         Answer::Plane => 7,
@@ -109,17 +109,17 @@ pub fn bad_lossless(lossless: bool, size: u32) -> bool
 }
 
 // Not lossless, and a type above 3, or 32 by 32 with a type other than 0.
-pub fn bad_kind(lossless: bool, size: u32, kind: u8) -> bool
-    ensures { λ r. ⌜ r ≡ badKind lossless size kind ⌝ }
+pub fn bad_tx_type(lossless: bool, size: u32, tx_type: u8) -> bool
+    ensures { λ r. ⌜ r ≡ badTxType lossless size «tx_type» ⌝ }
 {
     if lossless {
         return false;
     }
-    if 3 < kind {
+    if 3 < tx_type {
         return true;
     }
     if size == 3 {
-        return kind != 0;
+        return tx_type != 0;
     }
     false
 }

@@ -26,27 +26,27 @@ use Rattle.blocks.proofs.Blocks.{anew-length, anew-at, anew-past, block
 use Rattle.blocks.proofs.Passes.{Valid, first-each, each-first, pass-row, pass-column, row-valid, column-valid}
 
 -- ---- number by number
-module _ (n type : ℕ) (lossless : Bool) (s : List ℤ) where
-  pub inverse2d-length : length (inverse2d n type lossless s) ≡ length s
+module _ (n tx-type : ℕ) (lossless : Bool) (s : List ℤ) where
+  pub inverse2d-length : length (inverse2d n tx-type lossless s) ≡ length s
   unfolding inverse2d rowsThenColumns
   inverse2d-length =
-      columns-length (apply (columnPass type lossless) n) (rounding n lossless) (2 ^ n) (rows (apply (rowPass type lossless) n) (2 ^ n) s)
-      ∙ rows-length (apply (rowPass type lossless) n) (2 ^ n) s
+      columns-length (apply (columnPass tx-type lossless) n) (rounding n lossless) (2 ^ n) (rows (apply (rowPass tx-type lossless) n) (2 ^ n) s)
+      ∙ rows-length (apply (rowPass tx-type lossless) n) (2 ^ n) s
 
   -- number (i, j): number i of the column transform of column j of what the rows are, rounded
   pub inverse2d-at : 2 ^ n * 2 ^ n ≤ length s → (i j : ℕ) → i < 2 ^ n → j < 2 ^ n
-      → getD (inverse2d n type lossless s) (i * 2 ^ n + j) (pos 0)
-      ≡ rounding n lossless (getD (apply (columnPass type lossless) n (column (2 ^ n) j (rows (apply (rowPass type lossless) n) (2 ^ n) s))) i (pos 0))
+      → getD (inverse2d n tx-type lossless s) (i * 2 ^ n + j) (pos 0)
+      ≡ rounding n lossless (getD (apply (columnPass tx-type lossless) n (column (2 ^ n) j (rows (apply (rowPass tx-type lossless) n) (2 ^ n) s))) i (pos 0))
   unfolding inverse2d rowsThenColumns
   inverse2d-at room i j hi hj =
-      columns-at (apply (columnPass type lossless) n) (rounding n lossless) (2 ^ n) (rows (apply (rowPass type lossless) n) (2 ^ n) s)
-      (rw (rows-length (apply (rowPass type lossless) n) (2 ^ n) s) room) i j hi hj
+      columns-at (apply (columnPass tx-type lossless) n) (rounding n lossless) (2 ^ n) (rows (apply (rowPass tx-type lossless) n) (2 ^ n) s)
+      (rw (rows-length (apply (rowPass tx-type lossless) n) (2 ^ n) s) room) i j hi hj
 
-  pub inverse2d-past : (p : ℕ) → 2 ^ n * 2 ^ n ≤ p → getD (inverse2d n type lossless s) p (pos 0) ≡ getD s p (pos 0)
+  pub inverse2d-past : (p : ℕ) → 2 ^ n * 2 ^ n ≤ p → getD (inverse2d n tx-type lossless s) p (pos 0) ≡ getD s p (pos 0)
   unfolding inverse2d rowsThenColumns
   inverse2d-past p h =
-      columns-past (apply (columnPass type lossless) n) (rounding n lossless) (2 ^ n) (rows (apply (rowPass type lossless) n) (2 ^ n) s) p h
-      ∙ rows-past (apply (rowPass type lossless) n) (2 ^ n) s p h
+      columns-past (apply (columnPass tx-type lossless) n) (rounding n lossless) (2 ^ n) (rows (apply (rowPass tx-type lossless) n) (2 ^ n) s) p h
+      ∙ rows-past (apply (rowPass tx-type lossless) n) (2 ^ n) s p h
 
 -- ---- lines of a block within m are within m; a block is within m where its lines are
 pub row-within : (n0 m : ℕ) (s : List ℤ) → n0 ≤ 32 → FirstWithin m (n0 * n0) s → (i : ℕ) → i < n0 → FirstWithin m n0 (row n0 i s)
@@ -94,10 +94,10 @@ after-rows p n l h v s u room b e =
     rw e (rw (rows-length (apply p n) (2 ^ n) s) room, rows-within n l h p s room v b)
 
 -- rows, then columns
-pub both-passes : (n type : ℕ) (lossless : Bool) (s u : List ℤ) {v : List ℤ} → u ≡ rows (apply (rowPass type lossless) n) (2 ^ n) s
-    → v ≡ columns (apply (columnPass type lossless) n) (rounding n lossless) (2 ^ n) u → v ≡ inverse2d n type lossless s
+pub both-passes : (n tx-type : ℕ) (lossless : Bool) (s u : List ℤ) {v : List ℤ} → u ≡ rows (apply (rowPass tx-type lossless) n) (2 ^ n) s
+    → v ≡ columns (apply (columnPass tx-type lossless) n) (rounding n lossless) (2 ^ n) u → v ≡ inverse2d n tx-type lossless s
 unfolding inverse2d rowsThenColumns
-both-passes n type lossless s u e f = f ∙ ap (columns (apply (columnPass type lossless) n) (rounding n lossless) (2 ^ n)) e
+both-passes n tx-type lossless s u e f = f ∙ ap (columns (apply (columnPass tx-type lossless) n) (rounding n lossless) (2 ^ n)) e
 
 -- the rounding takes nothing further from 0 than 2^43
 rounding-within : (n : ℕ) (lossless : Bool) {z : ℤ} → 2 ≤ n → n ≤ 5 → Within (2 ^ 43) z → Within (2 ^ 43) (rounding n lossless z)
@@ -108,16 +108,16 @@ rounding-within n false {z} l h b =
     (round2-within (bits n) (two-to-five (λ n. 1 ≤ bits n) (omega arith) (omega arith) (omega arith) (omega arith) n l h) b)
 
 -- the residual of a block within 2^31 is within 2^43
-pub inverse2d-within : (n type : ℕ) (lossless : Bool) (s : List ℤ) → Possible n type lossless → 2 ^ n * 2 ^ n ≤ length s → FirstWithin (2 ^ 31) (2 ^ n * 2 ^ n) s
-    → FirstWithin (2 ^ 43) (2 ^ n * 2 ^ n) (inverse2d n type lossless s)
-inverse2d-within n type lossless s q room b =
-    let R = apply (rowPass type lossless) n in
+pub inverse2d-within : (n tx-type : ℕ) (lossless : Bool) (s : List ℤ) → Possible n tx-type lossless → 2 ^ n * 2 ^ n ≤ length s → FirstWithin (2 ^ 31) (2 ^ n * 2 ^ n) s
+    → FirstWithin (2 ^ 43) (2 ^ n * 2 ^ n) (inverse2d n tx-type lossless s)
+inverse2d-within n tx-type lossless s q room b =
+    let R = apply (rowPass tx-type lossless) n in
     record {
-      each = by-place (2 ^ n) (λ k. Within (2 ^ 43) (getD (inverse2d n type lossless s) k (pos 0)))
-          (λ i j hi hj. rw (inverse2d-at n type lossless s room i j hi hj)
+      each = by-place (2 ^ n) (λ k. Within (2 ^ 43) (getD (inverse2d n tx-type lossless s) k (pos 0)))
+          (λ i j hi hj. rw (inverse2d-at n tx-type lossless s room i j hi hj)
           (rounding-within n lossless (q .least) (q .most)
-          (column-grown n (q .least) (q .most) (columnPass type lossless) (rows R (2 ^ n) s) (rw (rows-length R (2 ^ n) s) room)
-          (column-valid n type lossless q) (rows-within n (q .least) (q .most) (rowPass type lossless) s room (row-valid n type lossless q) b) j hj .each i hi)));
+          (column-grown n (q .least) (q .most) (columnPass tx-type lossless) (rows R (2 ^ n) s) (rw (rows-length R (2 ^ n) s) room)
+          (column-valid n tx-type lossless q) (rows-within n (q .least) (q .most) (rowPass tx-type lossless) s room (row-valid n tx-type lossless q) b) j hj .each i hi)));
     }
 
 -- ---- ZERO ROWS: a row of zeros stays as it is, whatever the pass

@@ -75,13 +75,13 @@ pub small-valid : (shift : ℕ) (b : Bool) (n : ℕ) → 2 ≤ n → n ≤ 4 →
 small-valid shift true n l h = (l, omega arith)
 small-valid shift false n l h = (l, h)
 
-pub row-valid : (n type : ℕ) (lossless : Bool) → Possible n type lossless → Valid 2 (rowPass type lossless) n
-row-valid n type true h = (h .small refl, refl)
-row-valid n type false h = lossy-valid 2 (eqb type 0 || eqb type 1) n (h .least) (h .most) (λ e. rw (h .large refl e))
+pub row-valid : (n tx-type : ℕ) (lossless : Bool) → Possible n tx-type lossless → Valid 2 (rowPass tx-type lossless) n
+row-valid n tx-type true h = (h .small refl, refl)
+row-valid n tx-type false h = lossy-valid 2 (eqb tx-type 0 || eqb tx-type 1) n (h .least) (h .most) (λ e. rw (h .large refl e))
 
-pub column-valid : (n type : ℕ) (lossless : Bool) → Possible n type lossless → Valid 0 (columnPass type lossless) n
-column-valid n type true h = (h .small refl, refl)
-column-valid n type false h = lossy-valid 0 (eqb type 0 || eqb type 2) n (h .least) (h .most) (λ e. rw (h .large refl e))
+pub column-valid : (n tx-type : ℕ) (lossless : Bool) → Possible n tx-type lossless → Valid 0 (columnPass tx-type lossless) n
+column-valid n tx-type true h = (h .small refl, refl)
+column-valid n tx-type false h = lossy-valid 0 (eqb tx-type 0 || eqb tx-type 2) n (h .least) (h .most) (λ e. rw (h .large refl e))
 
 -- where it is the ADST, n is at most 4
 pub adst-side : (shift k n : ℕ) (lossless use-dct : Bool) → Valid shift (cond lossless (Wht k) (lossy use-dct)) n → lossless ≡ false → use-dct ≡ false → n ≤ 4

@@ -32,11 +32,11 @@ lossy false = Adst
 
 -- types 0 and 1 have DCT rows; lossless is the WHT at shift 2
 abbrev pub rowPass : ℕ → Bool → Pass
-rowPass type lossless = cond lossless (Wht 2) (lossy (eqb type 0 || eqb type 1))
+rowPass tx-type lossless = cond lossless (Wht 2) (lossy (eqb tx-type 0 || eqb tx-type 1))
 
 -- types 0 and 2 have DCT columns; lossless is the WHT at shift 0
 abbrev pub columnPass : ℕ → Bool → Pass
-columnPass type lossless = cond lossless (Wht 0) (lossy (eqb type 0 || eqb type 2))
+columnPass tx-type lossless = cond lossless (Wht 0) (lossy (eqb tx-type 0 || eqb tx-type 2))
 
 -- after the columns Round2 by min(6, n + 2) bits: 4, 5, 6, 6
 abbrev pub bits : ℕ → ℕ
@@ -49,17 +49,17 @@ rounding n false z = Round2 z (bits n)
 
 -- the residual of the block of 2^n by 2^n numbers at the front of the list, in its place
 unfoldable pub inverse2d : ℕ → ℕ → Bool → List ℤ → List ℤ
-inverse2d n type lossless = rowsThenColumns (apply (rowPass type lossless) n) (apply (columnPass type lossless) n) (rounding n lossless) (2 ^ n)
+inverse2d n tx-type lossless = rowsThenColumns (apply (rowPass tx-type lossless) n) (apply (columnPass tx-type lossless) n) (rounding n lossless) (2 ^ n)
 
 -- every number of the residual where only place 0 is live, of type 0
 unfoldable pub dcOnly : ℕ → ℤ → ℤ
 dcOnly n x = Round2 (turned (turned x)) (bits n)
 
 -- the sizes and types that there are: 32 by 32 has type 0 alone, lossless is 4 by 4
-pub record Possible (n type : ℕ) (lossless : Bool) : Type 0 where
+pub record Possible (n tx-type : ℕ) (lossless : Bool) : Type 0 where
   pub least : 2 ≤ n
   pub most : n ≤ 5
-  pub large : lossless ≡ false → n ≡ 5 → type ≡ 0
+  pub large : lossless ≡ false → n ≡ 5 → tx-type ≡ 0
   pub small : lossless ≡ true → n ≡ 2
 
 -- every step of the transform is within its range

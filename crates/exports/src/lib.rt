@@ -27,7 +27,7 @@ pub extern "C" fn bracetwill_inverse_transform_2d(
     tx_type: u8,
     lossless: bool,
 ) -> u32
-    ensures { λ r. ⌜ Told answerOf blockAfter (record { block = now (block .entry); n = n; kind = «tx_type»; lossless = lossless }) r (now (block .exit)) ⌝ }
+    ensures { λ r. ⌜ Told answerOf blockAfter (record { block = now (block .entry); n = n; tx-type = «tx_type»; lossless = lossless }) r (now (block .exit)) ⌝ }
 {
     let a = idct::inverse_transform_2d(block, n, tx_type, lossless);
     answers::code(a)
@@ -41,7 +41,7 @@ pub extern "C" fn bracetwill_inverse_transform_2d_reference(
     tx_type: u8,
     lossless: bool,
 ) -> u32
-    ensures { λ r. ⌜ Told answerOf blockAfter (record { block = now (block .entry); n = n; kind = «tx_type»; lossless = lossless }) r (now (block .exit)) ⌝ }
+    ensures { λ r. ⌜ Told answerOf blockAfter (record { block = now (block .entry); n = n; tx-type = «tx_type»; lossless = lossless }) r (now (block .exit)) ⌝ }
 {
     let a = idct::inverse_transform_2d_reference(block, n, tx_type, lossless);
     answers::code(a)
@@ -63,7 +63,7 @@ pub extern "C" fn bracetwill_reconstruct_block(
     lossless: bool,
     bit_depth: u32,
 ) -> u32
-    ensures { λ r. ⌜ Told reconstructAnswer samplesAfter (record { samples = now (samples .entry); plane = record { width = width; height = height }; x = x; y = y; size = «tx_sz»; tokens = now (tokens .entry); dc = record { 0 = «dc_quant» }; ac = record { 0 = «ac_quant» }; kind = «tx_type»; lossless = lossless; depth = «bit_depth» }) r (now (samples .exit)) ⌝ }
+    ensures { λ r. ⌜ Told reconstructAnswer samplesAfter (record { samples = now (samples .entry); plane = record { width = width; height = height }; x = x; y = y; size = «tx_sz»; tokens = now (tokens .entry); dc = record { 0 = «dc_quant» }; ac = record { 0 = «ac_quant» }; tx-type = «tx_type»; lossless = lossless; depth = «bit_depth» }) r (now (samples .exit)) ⌝ }
 {
     let a = reconstruct::reconstruct_block(
         samples,

@@ -15,7 +15,7 @@ use Rattle.whole.proofs.Within.{within-le}
 use Rattle.answers.specs.declared.Answer.{Answer}
 use Rattle.answers.specs.declared.Answer.the-variants.{Done, Coefficient}
 use Rattle.answers.specs.Answers.{number}
-use Rattle.answers.specs.Bad.{badLossless, badKind, anyBeyond}
+use Rattle.answers.specs.Bad.{badLossless, badTxType, anyBeyond}
 use Rattle.answers.specs.Limits.{COEF_LIMIT}
 use Rattle.answers.proofs.Numbers.{number-injective}
 use Rattle.answers.proofs.Passed.{none-within}
@@ -23,7 +23,8 @@ use Rattle.dct.proofs.Dct.{two-to-five}
 use Rattle.blocks.specs.Block.{live, FirstWithin}
 use Rattle.blocks.specs.Inverse.{inverse2d, dcOnly, Possible}
 use Rattle.blocks.proofs.Inverse.{dc-only, filled}
-use Rattle.idct.specs.Driver.{Input, area, badSide, badRoom, shapeOf, answerOf, blockAfter, Driven, Tried, onlyDc}
+use Rattle.answers.specs.Sizes.{area}
+use Rattle.idct.specs.Driver.{Input, badSide, badRoom, shapeOf, answerOf, blockAfter, Driven, Tried, onlyDc}
 use Rattle.idct.proofs.Beyond.{first-beyond}
 
 never : {A : Type 0} → true ≡ false → A
@@ -56,16 +57,16 @@ lossless-is n true l h e = go (eqb (n - 2) 0) refl
     go false p = never (rw (p) at h)
 lossless-is n false l h e = never (sym e)
 
-large-is : (n type : ℕ) (lossless : Bool) → badKind lossless (n - 2) type ≡ false → lossless ≡ false → n ≡ 5 → type ≡ 0
-unfolding badKind
-large-is n type true h e f = never e
-large-is n type false h e f = go (ltb 3 type) (eqb type 0) refl refl
+large-is : (n tx-type : ℕ) (lossless : Bool) → badTxType lossless (n - 2) tx-type ≡ false → lossless ≡ false → n ≡ 5 → tx-type ≡ 0
+unfolding badTxType
+large-is n tx-type true h e f = never e
+large-is n tx-type false h e f = go (ltb 3 tx-type) (eqb tx-type 0) refl refl
   where
     size : eqb (n - 2) 3 ≡ true
     size = eq-eqb (n - 2) 3 (omega arith)
 
-    go : (a b : Bool) → ltb 3 type ≡ a → eqb type 0 ≡ b → type ≡ 0
-    go a true p q = eqb-true type 0 q
+    go : (a b : Bool) → ltb 3 tx-type ≡ a → eqb tx-type 0 ≡ b → tx-type ≡ 0
+    go a true p q = eqb-true tx-type 0 q
     go true false p q = never (rw (p) at h)
     go false false p q = never (rw (p, size, q) at h)
 
@@ -74,31 +75,31 @@ cond-pass : (b : Bool) (k r : ℕ) → cond b (suc k) r ≡ 0 → (b ≡ false) 
 cond-pass true k r h = absurd (omega arith)
 cond-pass false k r h = (refl, h)
 
-pub possible : (count n type : ℕ) (lossless : Bool) → shapeOf count n type lossless ≡ 0 → Possible n type lossless × (area n ≤ count)
+pub possible : (count n tx-type : ℕ) (lossless : Bool) → shapeOf count n tx-type lossless ≡ 0 → Possible n tx-type lossless × (area n ≤ count)
 unfolding shapeOf
-possible count n type lossless h =
+possible count n tx-type lossless h =
     let a = cond-pass (badSide n) 1 _ h in
     let b = cond-pass (badLossless lossless (n - 2)) 2 _ (a .1) in
-    let c = cond-pass (badKind lossless (n - 2) type) 3 _ (b .1) in
+    let c = cond-pass (badTxType lossless (n - 2) tx-type) 3 _ (b .1) in
     let d = cond-pass (badRoom count n) 5 _ (c .1) in
     let r = side-range n (a .0) in (
-      record { least = r .0; most = r .1; large = large-is n type lossless (c .0); small = lossless-is n lossless (r .0) (b .0) },
+      record { least = r .0; most = r .1; large = large-is n tx-type lossless (c .0); small = lossless-is n lossless (r .0) (b .0) },
       ltb-false count (area n) (d .0),
     )
 
 -- the type is not looked at when lossless
-pub any-type : (n type : ℕ) (s : List ℤ) → inverse2d n 0 true s ≡ inverse2d n type true s
+pub any-type : (n tx-type : ℕ) (s : List ℤ) → inverse2d n 0 true s ≡ inverse2d n tx-type true s
 unfolding inverse2d
-any-type n type s = refl
+any-type n tx-type s = refl
 
-pub any-tried : (n type : ℕ) (s : List ℤ) {made : Bool} {after : List ℤ} → Tried (record { block = s; n = n; kind = 0; lossless = true }) made after
-    → Tried (record { block = s; n = n; kind = type; lossless = true }) made after
+pub any-tried : (n tx-type : ℕ) (s : List ℤ) {made : Bool} {after : List ℤ} → Tried (record { block = s; n = n; tx-type = 0; lossless = true }) made after
+    → Tried (record { block = s; n = n; tx-type = tx-type; lossless = true }) made after
 unfolding inverse2d
-any-tried n type s h = record { under = h .under; written = h .written; left = h .left }
+any-tried n tx-type s h = record { under = h .under; written = h .written; left = h .left }
 
 -- ---- the answer from its two parts
 shape : Input → ℕ
-shape u = shapeOf (length (u .block)) (u .n) (u .kind) (u .lossless)
+shape u = shapeOf (length (u .block)) (u .n) (u .tx-type) (u .lossless)
 
 beyond : Input → Bool
 beyond u = anyBeyond COEF_LIMIT (area (u .n)) (u .block)
@@ -113,11 +114,11 @@ parts false false false false e = refl
 answer-is : (u : Input) → answerOf u ≡ cond (eqb (shape u) 0) (cond (beyond u) 9 0) (shape u)
 unfolding answerOf shape shapeOf beyond
 answer-is u =
-    parts (badSide (u .n)) (badLossless (u .lossless) (u .n - 2)) (badKind (u .lossless) (u .n - 2) (u .kind)) (badRoom (length (u .block)) (u .n))
+    parts (badSide (u .n)) (badLossless (u .lossless) (u .n - 2)) (badTxType (u .lossless) (u .n - 2) (u .tx-type)) (badRoom (length (u .block)) (u .n))
     (anyBeyond COEF_LIMIT (area (u .n)) (u .block))
 
 -- a refusal before the numbers: the block stays
-pub refused : (u : Input) (a : Answer) → number a ≡ shapeOf (length (u .block)) (u .n) (u .kind) (u .lossless) → (number a ≡ 0 → ⊥) → Driven u a (u .block)
+pub refused : (u : Input) (a : Answer) → number a ≡ shapeOf (length (u .block)) (u .n) (u .tx-type) (u .lossless) → (number a ≡ 0 → ⊥) → Driven u a (u .block)
 unfolding shape blockAfter
 refused u a e h =
     let f : eqb (shape u) 0 ≡ false = ne-eqb (shape u) 0 (λ q. h (e ∙ q)) in
@@ -127,55 +128,55 @@ refused u a e h =
 -- past them: by what is beyond, 0 or 9
 pub record Checked (u : Input) (answer : Answer) (after : List ℤ) : Type 0 where
   pub answered : number answer ≡ cond (anyBeyond COEF_LIMIT (area (u .n)) (u .block)) 9 0
-  pub written : after ≡ cond (anyBeyond COEF_LIMIT (area (u .n)) (u .block)) (u .block) (inverse2d (u .n) (u .kind) (u .lossless) (u .block))
+  pub written : after ≡ cond (anyBeyond COEF_LIMIT (area (u .n)) (u .block)) (u .block) (inverse2d (u .n) (u .tx-type) (u .lossless) (u .block))
 
 by-beyond : (b : Bool) (l m : List ℤ) → cond b l m ≡ cond (eqb (cond b 9 0) 0) m l
 by-beyond true l m = refl
 by-beyond false l m = refl
 
-pub driven : (u : Input) (a : Answer) (after : List ℤ) → shapeOf (length (u .block)) (u .n) (u .kind) (u .lossless) ≡ 0 → Checked u a after → Driven u a after
+pub driven : (u : Input) (a : Answer) (after : List ℤ) → shapeOf (length (u .block)) (u .n) (u .tx-type) (u .lossless) ≡ 0 → Checked u a after → Driven u a after
 unfolding shape beyond blockAfter
 driven u a after e h =
     let f : eqb (shape u) 0 ≡ true = eq-eqb (shape u) 0 e in
     let g : answerOf u ≡ cond (beyond u) 9 0 = answer-is u ∙ rw f in
-    record { answered = h .answered ∙ sym g; written = h .written ∙ rw g (by-beyond (beyond u) (u .block) (inverse2d (u .n) (u .kind) (u .lossless) (u .block))) }
+    record { answered = h .answered ∙ sym g; written = h .written ∙ rw g (by-beyond (beyond u) (u .block) (inverse2d (u .n) (u .tx-type) (u .lossless) (u .block))) }
 
 -- ---- the limit passed or not
 pub over : (u : Input) → anyBeyond COEF_LIMIT (area (u .n)) (u .block) ≡ true → Checked u Coefficient (u .block)
 over u h = record { answered = rw h; written = rw h }
 
-pub under : (u : Input) (after : List ℤ) → anyBeyond COEF_LIMIT (area (u .n)) (u .block) ≡ false → after ≡ inverse2d (u .n) (u .kind) (u .lossless) (u .block) → Checked u Done after
+pub under : (u : Input) (after : List ℤ) → anyBeyond COEF_LIMIT (area (u .n)) (u .block) ≡ false → after ≡ inverse2d (u .n) (u .tx-type) (u .lossless) (u .block) → Checked u Done after
 under u after h e = record { answered = rw h; written = rw h e }
 
 -- ---- the fast engine: the residual made, or the block left
-pub made : (u : Input) (after : List ℤ) → anyBeyond COEF_LIMIT (area (u .n)) (u .block) ≡ false → after ≡ inverse2d (u .n) (u .kind) (u .lossless) (u .block) → Tried u true after
+pub made : (u : Input) (after : List ℤ) → anyBeyond COEF_LIMIT (area (u .n)) (u .block) ≡ false → after ≡ inverse2d (u .n) (u .tx-type) (u .lossless) (u .block) → Tried u true after
 made u after h e = record { under = λ _. h; written = λ _. e; left = λ q. never q }
 
 pub left : (u : Input) → Tried u false (u .block)
 left u = record { under = λ q. never (sym q); written = λ q. never (sym q); left = λ _. refl }
 
 -- made, it is what the drivers promise; left, the block is as it was for the reference
-pub driven-made : (u : Input) {b : Bool} {after : List ℤ} → shapeOf (length (u .block)) (u .n) (u .kind) (u .lossless) ≡ 0 → b ≡ true → Tried u b after → Driven u Done after
+pub driven-made : (u : Input) {b : Bool} {after : List ℤ} → shapeOf (length (u .block)) (u .n) (u .tx-type) (u .lossless) ≡ 0 → b ≡ true → Tried u b after → Driven u Done after
 driven-made u {b} {after} e q t = driven u Done after e (under u after (t .under q) (t .written q))
 
 pub driven-left : (u : Input) {b : Bool} {s after : List ℤ} {a : Answer} → b ≡ false → Tried u b s
-    → Driven (record { block = s; n = u .n; kind = u .kind; lossless = u .lossless }) a after → Driven u a after
+    → Driven (record { block = s; n = u .n; tx-type = u .tx-type; lossless = u .lossless }) a after → Driven u a after
 driven-left u q t d = rw (t .left q) at d
 
 -- sizes above 4 by 4 are not lossless
-module _ (s : List ℤ) (n type : ℕ) (lossless : Bool) (e : shapeOf (length s) n type lossless ≡ 0) (h : n ≡ 2 → ⊥) where
+module _ (s : List ℤ) (n tx-type : ℕ) (lossless : Bool) (e : shapeOf (length s) n tx-type lossless ≡ 0) (h : n ≡ 2 → ⊥) where
   lossy-is : lossless ≡ false
   lossy-is = go lossless refl
     where
       go : (b : Bool) → lossless ≡ b → lossless ≡ false
-      go true q = absurd (h (possible (length s) n type lossless e .0 .small q))
+      go true q = absurd (h (possible (length s) n tx-type lossless e .0 .small q))
       go false q = q
 
-  pub large-fine : Possible n type false × (area n ≤ length s)
-  large-fine = rw lossy-is at (possible (length s) n type lossless e)
+  pub large-fine : Possible n tx-type false × (area n ≤ length s)
+  large-fine = rw lossy-is at (possible (length s) n tx-type lossless e)
 
-  pub as-lossy : {b : Bool} {after : List ℤ} → Tried (record { block = s; n = n; kind = type; lossless = false }) b after
-      → Tried (record { block = s; n = n; kind = type; lossless = lossless }) b after
+  pub as-lossy : {b : Bool} {after : List ℤ} → Tried (record { block = s; n = n; tx-type = tx-type; lossless = false }) b after
+      → Tried (record { block = s; n = n; tx-type = tx-type; lossless = lossless }) b after
   as-lossy t = rw lossy-is t
 
 -- a block within the limit is within what the transforms take
@@ -183,18 +184,18 @@ pub in-range : (n : ℕ) (l : List ℤ) → anyBeyond COEF_LIMIT n l ≡ false �
 in-range n l h = record { each = λ k q. within-le (omega arith) (none-within COEF_LIMIT n l h k q) }
 
 -- ---- the DC-only case
-pub record Alone (n type : ℕ) (block : List ℤ) : Type 0 where
-  pub zero-kind : type ≡ 0
+pub record Alone (n tx-type : ℕ) (block : List ℤ) : Type 0 where
+  pub zero-kind : tx-type ≡ 0
   pub dead : live 1 (area n - 1) block ≡ false
 
-pub alone : (n type : ℕ) (block : List ℤ) → onlyDc (area n) type block ≡ true → Alone n type block
+pub alone : (n tx-type : ℕ) (block : List ℤ) → onlyDc (area n) tx-type block ≡ true → Alone n tx-type block
 unfolding onlyDc
-alone n type block h = go (eqb type 0) (live 1 (area n - 1) block) refl refl
+alone n tx-type block h = go (eqb tx-type 0) (live 1 (area n - 1) block) refl refl
   where
-    go : (b c : Bool) → eqb type 0 ≡ b → live 1 (area n - 1) block ≡ c → Alone n type block
+    go : (b c : Bool) → eqb tx-type 0 ≡ b → live 1 (area n - 1) block ≡ c → Alone n tx-type block
     go false c q r = never (sym (rw q at h))
     go true true q r = never (sym (rw (q, r) at h))
-    go true false q r = record { zero-kind = eqb-true type 0 q; dead = r }
+    go true false q r = record { zero-kind = eqb-true tx-type 0 q; dead = r }
 
 pub area-some : (n : ℕ) → 1 ≤ area n
 area-some n = mul-le-mul (pow-pos n) (pow-pos n)
@@ -206,7 +207,7 @@ module _ (n : ℕ) (block : List ℤ) (l : 2 ≤ n) (h : n ≤ 5) (room : area n
   pub dc-beyond : anyBeyond COEF_LIMIT (area n) block ≡ ltb COEF_LIMIT (natAbs (getD block 0 (pos 0)))
   dc-beyond = first-beyond COEF_LIMIT (area n) block (area-some n) dead
 
-  pub dc-written : {type : ℕ} {after : List ℤ} → type ≡ 0 → after ≡ fill (area n) (λ k. dcOnly n (getD block 0 (pos 0))) block → after ≡ inverse2d n type false block
+  pub dc-written : {tx-type : ℕ} {after : List ℤ} → tx-type ≡ 0 → after ≡ fill (area n) (λ k. dcOnly n (getD block 0 (pos 0))) block → after ≡ inverse2d n tx-type false block
   dc-written q e =
       e ∙ filled (2 ^ n) (dcOnly n (getD block 0 (pos 0))) block room ∙ sym (dc-only n l h block room dead)
-      ∙ ap (λ (type : ℕ). inverse2d n type false block) (sym q)
+      ∙ ap (λ (tx-type : ℕ). inverse2d n tx-type false block) (sym q)

@@ -9,7 +9,8 @@ use lib.ListN.{length}
 use Rattle.answers.specs.declared.Answer.{Answer}
 use Rattle.answers.specs.Answers.{number, lowest}
 use Rattle.answers.specs.Limits.{COEF_LIMIT}
-use Rattle.answers.specs.Bad.{badLossless, badKind, anyBeyond}
+use Rattle.answers.specs.Sizes.{area}
+use Rattle.answers.specs.Bad.{badLossless, badTxType, anyBeyond}
 use Rattle.blocks.specs.Block.{live}
 use Rattle.blocks.specs.Inverse.{inverse2d}
 
@@ -17,12 +18,8 @@ use Rattle.blocks.specs.Inverse.{inverse2d}
 pub record Input : Type 0 where
   pub block : List ℤ
   pub n : ℕ
-  pub kind : ℕ
+  pub tx-type : ℕ
   pub lossless : Bool
-
--- numbers of the block: n0 × n0, n0 = 2^n
-abbrev pub area : ℕ → ℕ
-area n = 2 ^ n * 2 ^ n
 
 -- 2: n outside 2 to 5
 unfoldable pub badSide : ℕ → Bool
@@ -34,8 +31,8 @@ badRoom count n = ltb count (area n)
 
 -- 2, 3, 4 and 6: the tests before any number of the block is read; the size number is n − 2
 unfoldable pub shapeOf : ℕ → ℕ → ℕ → Bool → ℕ
-shapeOf count n kind lossless =
-    lowest ((2, badSide n) ∷ (3, badLossless lossless (n - 2)) ∷ (4, badKind lossless (n - 2) kind) ∷ (6, badRoom count n) ∷ [])
+shapeOf count n tx-type lossless =
+    lowest ((2, badSide n) ∷ (3, badLossless lossless (n - 2)) ∷ (4, badTxType lossless (n - 2) tx-type) ∷ (6, badRoom count n) ∷ [])
 
 -- the answer: 9 where a number of the block is beyond its limit
 unfoldable pub answerOf : Input → ℕ
@@ -44,7 +41,7 @@ answerOf u =
     (
     (2, badSide (u .n))
     ∷ (3, badLossless (u .lossless) (u .n - 2))
-    ∷ (4, badKind (u .lossless) (u .n - 2) (u .kind))
+    ∷ (4, badTxType (u .lossless) (u .n - 2) (u .tx-type))
     ∷ (6, badRoom (length (u .block)) (u .n))
     ∷ (9, anyBeyond COEF_LIMIT (area (u .n)) (u .block))
     ∷ []
@@ -52,7 +49,7 @@ answerOf u =
 
 -- the block afterwards: the residual, and as it was under a refusal
 unfoldable pub blockAfter : Input → List ℤ
-blockAfter u = cond (eqb (answerOf u) 0) (inverse2d (u .n) (u .kind) (u .lossless) (u .block)) (u .block)
+blockAfter u = cond (eqb (answerOf u) 0) (inverse2d (u .n) (u .tx-type) (u .lossless) (u .block)) (u .block)
 
 -- the promise: the answer, and the list afterwards
 pub record Driven (u : Input) (answer : Answer) (after : List ℤ) : Type 0 where
@@ -62,9 +59,9 @@ pub record Driven (u : Input) (answer : Answer) (after : List ℤ) : Type 0 wher
 -- what the fast engine comes to on a block of a size and type that there are, and with room: the residual, or nothing done
 pub record Tried (u : Input) (made : Bool) (after : List ℤ) : Type 0 where
   pub under : made ≡ true → anyBeyond COEF_LIMIT (area (u .n)) (u .block) ≡ false
-  pub written : made ≡ true → after ≡ inverse2d (u .n) (u .kind) (u .lossless) (u .block)
+  pub written : made ≡ true → after ≡ inverse2d (u .n) (u .tx-type) (u .lossless) (u .block)
   pub left : made ≡ false → after ≡ u .block
 
 -- the type is 0, and of `count` numbers only the first is live
 unfoldable pub onlyDc : ℕ → ℕ → List ℤ → Bool
-onlyDc count kind block = eqb kind 0 && not (live 1 (count - 1) block)
+onlyDc count tx-type block = eqb tx-type 0 && not (live 1 (count - 1) block)

@@ -319,7 +319,7 @@ pub fn inverse4(block: &mut [i64], tx_type: u8)
 
 fn wht_tried(block: &mut [i64]) -> bool
     requires { ⌜ 16 ≤ length (now block) ⌝ }
-    ensures { λ r. ⌜ Tried (record { block = now (block .entry); n = 2; kind = 0; lossless = true }) r (now (block .exit)) ⌝ }
+    ensures { λ r. ⌜ Tried (record { block = now (block .entry); n = 2; tx-type = 0; lossless = true }) r (now (block .exit)) ⌝ }
 {
     let first = blocks::all_raised(block, 0, 4, answers::COEF_LIMIT);
     let rest = blocks::all_raised(block, 4, 12, answers::COEF_LIMIT);
@@ -341,7 +341,7 @@ fn wht_tried(block: &mut [i64]) -> bool
 
 fn tried2(block: &mut [i64], tx_type: u8) -> bool
     requires { ⌜ 16 ≤ length (now block) ⌝ }
-    ensures { λ r. ⌜ Tried (record { block = now (block .entry); n = 2; kind = «tx_type»; lossless = false }) r (now (block .exit)) ⌝ }
+    ensures { λ r. ⌜ Tried (record { block = now (block .entry); n = 2; tx-type = «tx_type»; lossless = false }) r (now (block .exit)) ⌝ }
 {
     if !surely_within(block, 16) {
         return false;
@@ -353,7 +353,7 @@ fn tried2(block: &mut [i64], tx_type: u8) -> bool
 // 4 by 4.
 pub fn tried_small(block: &mut [i64], tx_type: u8, lossless: bool) -> bool
     requires { ⌜ 16 ≤ length (now block) ⌝ }
-    ensures { λ r. ⌜ Tried (record { block = now (block .entry); n = 2; kind = «tx_type»; lossless = lossless }) r (now (block .exit)) ⌝ }
+    ensures { λ r. ⌜ Tried (record { block = now (block .entry); n = 2; tx-type = «tx_type»; lossless = lossless }) r (now (block .exit)) ⌝ }
 {
     if lossless {
         return wht_tried(block);
@@ -364,7 +364,7 @@ pub fn tried_small(block: &mut [i64], tx_type: u8, lossless: bool) -> bool
 // The larger sizes.
 pub fn tried_large(block: &mut [i64], n: u32, tx_type: u8) -> bool
     requires { ⌜ Possible n «tx_type» false × (2 ^ n * 2 ^ n ≤ length (now block)) ⌝ }
-    ensures { λ r. ⌜ Tried (record { block = now (block .entry); n = n; kind = «tx_type»; lossless = false }) r (now (block .exit)) ⌝ }
+    ensures { λ r. ⌜ Tried (record { block = now (block .entry); n = n; tx-type = «tx_type»; lossless = false }) r (now (block .exit)) ⌝ }
 {
     let n0 = crate::side(n);
     if only_dc(block, n0 * n0, tx_type) {

@@ -76,8 +76,8 @@ fn shape(count: usize, n: u32, tx_type: u8, lossless: bool) -> Answer
     if answers::bad_lossless(lossless, n - 2) {
         return Answer::LosslessSize;
     }
-    if answers::bad_kind(lossless, n - 2, tx_type) {
-        return Answer::Kind;
+    if answers::bad_tx_type(lossless, n - 2, tx_type) {
+        return Answer::TxType;
     }
     let n0 = side(n);
     if count < n0 * n0 {
@@ -93,7 +93,7 @@ pub fn inverse_transform_2d_reference(
     tx_type: u8,
     lossless: bool,
 ) -> Answer
-    ensures { λ r. ⌜ Driven (record { block = now (block .entry); n = n; kind = «tx_type»; lossless = lossless }) r (now (block .exit)) ⌝ }
+    ensures { λ r. ⌜ Driven (record { block = now (block .entry); n = n; tx-type = «tx_type»; lossless = lossless }) r (now (block .exit)) ⌝ }
 {
     let a = shape(block.len(), n, tx_type, lossless);
     if answers::code(a) != 0 {
@@ -110,7 +110,7 @@ pub fn inverse_transform_2d_reference(
 
 // The fast engine, 4 by 4: with 2 for n the tests fold.
 fn small(block: &mut [i64], tx_type: u8, lossless: bool) -> Answer
-    ensures { λ r. ⌜ Driven (record { block = now (block .entry); n = 2; kind = «tx_type»; lossless = lossless }) r (now (block .exit)) ⌝ }
+    ensures { λ r. ⌜ Driven (record { block = now (block .entry); n = 2; tx-type = «tx_type»; lossless = lossless }) r (now (block .exit)) ⌝ }
 {
     let answer = shape(block.len(), 2, tx_type, lossless);
     if answers::code(answer) != 0 {
@@ -124,7 +124,7 @@ fn small(block: &mut [i64], tx_type: u8, lossless: bool) -> Answer
 
 // The residual of the block, in its place, by the fast engine. A block at the limit or beyond it goes to the reference, whose test is exact.
 pub fn inverse_transform_2d(block: &mut [i64], n: u32, tx_type: u8, lossless: bool) -> Answer
-    ensures { λ r. ⌜ Driven (record { block = now (block .entry); n = n; kind = «tx_type»; lossless = lossless }) r (now (block .exit)) ⌝ }
+    ensures { λ r. ⌜ Driven (record { block = now (block .entry); n = n; tx-type = «tx_type»; lossless = lossless }) r (now (block .exit)) ⌝ }
 {
     if n == 2 {
         return small(block, tx_type, lossless);

@@ -18,7 +18,7 @@ use Rattle.whole.proofs.Within.{within-parts, within-zero, abs-bd}
 use Rattle.answers.specs.declared.Answer.{Answer}
 use Rattle.answers.specs.declared.Answer.the-variants.{Done}
 use Rattle.answers.specs.Limits.{COEF_LIMIT, WHT_LIMIT, SIDE_LIMIT, codeable}
-use Rattle.answers.specs.Bad.{badDepth, badLossless, badKind, badQuantizer, anyBeyond}
+use Rattle.answers.specs.Bad.{badDepth, badLossless, badTxType, badQuantizer, anyBeyond}
 use Rattle.answers.proofs.Numbers.{number-injective}
 use Rattle.answers.proofs.Passed.{by-depth, codeable-most}
 use Rattle.quant.specs.declared.DcQuant.{DcQuant}
@@ -55,13 +55,13 @@ no-rounding : rounding 2 true ≡ (λ z. z)
 unfolding rounding
 no-rounding = fun-ext (λ z. refl)
 
-inverse-is : (kind : ℕ) (s : List ℤ) → inverse2d 2 kind true s ≡ rowsThenColumns (wht 2) (wht 0) (λ z. z) 4 s
+inverse-is : (tx-type : ℕ) (s : List ℤ) → inverse2d 2 tx-type true s ≡ rowsThenColumns (wht 2) (wht 0) (λ z. z) 4 s
 unfolding inverse2d
-inverse-is kind s = rw (wht-rows, wht-columns, no-rounding)
+inverse-is tx-type s = rw (wht-rows, wht-columns, no-rounding)
 
-restored : (dc : DcQuant) (ac : AcQuant) (kind : ℕ) (d : List ℤ) → dc .0 ≡ pos 4 → ac .0 ≡ pos 4 → length d ≡ 16 → residual 0 dc ac kind true (forwardWht d) ≡ d
+restored : (dc : DcQuant) (ac : AcQuant) (tx-type : ℕ) (d : List ℤ) → dc .0 ≡ pos 4 → ac .0 ≡ pos 4 → length d ≡ 16 → residual 0 dc ac tx-type true (forwardWht d) ≡ d
 unfolding residual
-restored dc ac kind d p q h = inverse-is kind (dequantAll 0 dc ac (forwardWht d)) ∙ F.lossless dc ac d p q h
+restored dc ac tx-type d p q h = inverse-is tx-type (dequantAll 0 dc ac (forwardWht d)) ∙ F.lossless dc ac d p q h
 
 -- ---- the differences are within the largest sample
 sub-within : (m a b : ℕ) → a ≤ m → b ≤ m → Within m (pos a -ℤ pos b)
@@ -152,7 +152,7 @@ module _ (c : Coded) (l : Lossless c) where
 
   -- ---- and so is the reconstruction
   decoded-zero : answerOf (decoding c (forwardWht (c .differences))) ≡ 0
-  unfolding answerOf badLossless badKind
+  unfolding answerOf badLossless badTxType
   decoded-zero =
       rw (
         l .depth-ok,
@@ -174,7 +174,7 @@ module _ (c : Coded) (l : Lossless c) where
   samples-are =
       sym (done (decoding c (forwardWht (c .differences))) decoded-zero)
       ∙ ap (λ (d : List ℤ). planeAfter (c .plane) (largest (c .depth)) (c .x) (c .y) 4 (λ i j. getD d (i * 4 + j) (pos 0)) (c .samples))
-      (restored (c .dc) (c .ac) (c .kind) (c .differences) (l .dc-four) (l .ac-four) (l .sixteen))
+      (restored (c .dc) (c .ac) (c .tx-type) (c .differences) (l .dc-four) (l .ac-four) (l .sixteen))
 
   after-count : length after ≡ length (c .samples)
   unfolding after

@@ -23,7 +23,7 @@ smallest =
       y = 0;
       dc = record { 0 = pos 4 };
       ac = record { 0 = pos 4 };
-      kind = 0;
+      tx-type = 0;
       depth = 8;
       source = λ i j. 1;
       differences = differencesOf (record { width = 1; height = 1 }) (0 ∷ []) 0 0 (λ i j. 1);

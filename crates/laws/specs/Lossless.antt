@@ -27,7 +27,7 @@ pub record Coded : Type 0 where
   pub y : ℕ
   pub dc : DcQuant
   pub ac : AcQuant
-  pub kind : ℕ
+  pub tx-type : ℕ
   pub depth : ℕ
   pub source : ℕ → ℕ → ℕ
   pub differences : List ℤ
@@ -67,7 +67,7 @@ decoding c tokens =
       tokens = tokens;
       dc = c .dc;
       ac = c .ac;
-      kind = c .kind;
+      tx-type = c .tx-type;
       lossless = true;
       depth = c .depth;
     }

@@ -42,7 +42,7 @@ mark-test s h = go (eqb (le1 s 0) 86) (eqb (le1 s 1) 66) (eqb (le1 s 2) 75) refl
 no-area : (s : List ℕ) → badArea (planeArea s) ≡ true → W.Header s 6
 unfolding badArea
 no-area s h =
-    T.or-true (eqb (planeArea s) 0) (ltb AREA_LIMIT (planeArea s)) (λ e. W.empty (eqb-true (planeArea s) 0 e)) (λ e. W.area (ltb-true AREA_LIMIT (planeArea s) e)) h
+    T.or-true (eqb (planeArea s) 0) (ltb AREA_LIMIT (planeArea s)) (λ e. W.empty (eqb-true (planeArea s) 0 e)) (λ e. W.wide (ltb-true AREA_LIMIT (planeArea s) e)) h
 
 empty-test : (s : List ℕ) → planeArea s ≡ 0 → badArea (planeArea s) ≡ true
 unfolding badArea
@@ -78,7 +78,7 @@ header-has s n (W.mark h) = there (there (here-if 3 _ _ (mark-test s h)))
 header-has s n (W.version h) = there (there (there (here-if 4 _ _ (T.differs (versionOf s) 1 h))))
 header-has s n (W.depth h) = there (there (there (there (here-if 5 _ _ (T.depth-test (depthOf s) h)))))
 header-has s n (W.empty h) = there (there (there (there (there (here-if 6 _ _ (empty-test s h))))))
-header-has s n (W.area h) = there (there (there (there (there (here-if 6 _ _ (area-test s h))))))
+header-has s n (W.wide h) = there (there (there (there (there (here-if 6 _ _ (area-test s h))))))
 header-has s n (W.samples h) = there (there (there (there (there (there (here-if 7 _ _ (lt-ltb (length s) (firstRecord s) h)))))))
 
 header-order : (s : List ℕ) → InOrder (W.Header s) W.headerNumbers (headerAnswer s)

@@ -11,8 +11,8 @@ use lib.ListN.{getD}
 use Rattle.whole.specs.Tests.{anyBelow}
 use Rattle.whole.proofs.Tests.{any-hit}
 use Rattle.answers.specs.Limits.{QUANT_LIMIT}
-use Rattle.answers.specs.Bad.{badDepth, badLossless, badKind, badQuantizer, anyBeyond}
-use Rattle.promises.specs.Conditions.{NoDepth, LosslessAt, NoKind, NoQuantizer, SomeBeyond, above, at-32}
+use Rattle.answers.specs.Bad.{badDepth, badLossless, badTxType, badQuantizer, anyBeyond}
+use Rattle.promises.specs.Conditions.{NoDepth, LosslessAt, NoTxType, NoQuantizer, SomeBeyond, above, at-32}
 
 -- ---- of two tests
 pub never : {A : Type 0} → false ≡ true → A
@@ -71,19 +71,19 @@ unfolding badLossless
 lossless-test lossless size l = rw (l .set, ne-eqb size 0 (l .larger))
 
 -- ---- 4
-pub no-kind : (lossless : Bool) (size kind : ℕ) → badKind lossless size kind ≡ true → NoKind lossless size kind
-unfolding badKind
-no-kind true size kind h = never h
-no-kind false size kind h =
-    or-true (ltb 3 kind) (eqb size 3 && not (eqb kind 0)) (λ e. above refl (ltb-true 3 kind e))
-    (λ e. let p = and-true (eqb size 3) (not (eqb kind 0)) e in
-    at-32 refl (eqb-true size 3 (p .0)) (differ kind 0 (p .1)))
+pub no-tx-type : (lossless : Bool) (size tx-type : ℕ) → badTxType lossless size tx-type ≡ true → NoTxType lossless size tx-type
+unfolding badTxType
+no-tx-type true size tx-type h = never h
+no-tx-type false size tx-type h =
+    or-true (ltb 3 tx-type) (eqb size 3 && not (eqb tx-type 0)) (λ e. above refl (ltb-true 3 tx-type e))
+    (λ e. let p = and-true (eqb size 3) (not (eqb tx-type 0)) e in
+    at-32 refl (eqb-true size 3 (p .0)) (differ tx-type 0 (p .1)))
     h
 
-pub kind-test : (lossless : Bool) (size kind : ℕ) → NoKind lossless size kind → badKind lossless size kind ≡ true
-unfolding badKind
-kind-test lossless size kind (above l h) = rw (l, lt-ltb 3 kind h)
-kind-test lossless size kind (at-32 l e h) = rw (l, eq-eqb size 3 e, ne-eqb kind 0 h) (right (ltb 3 kind) true refl)
+pub tx-type-test : (lossless : Bool) (size tx-type : ℕ) → NoTxType lossless size tx-type → badTxType lossless size tx-type ≡ true
+unfolding badTxType
+tx-type-test lossless size tx-type (above l h) = rw (l, lt-ltb 3 tx-type h)
+tx-type-test lossless size tx-type (at-32 l e h) = rw (l, eq-eqb size 3 e, ne-eqb tx-type 0 h) (right (ltb 3 tx-type) true refl)
 
 -- ---- 5
 pub no-quantizer : (q : ℤ) → badQuantizer q ≡ true → NoQuantizer q

@@ -2,7 +2,7 @@
 use mathlib.Core.Path.{_≡_, refl, sym, subst}
 use mathlib.Core.Bool.{Bool, true, false, not, _||_}
 use mathlib.Core.List.{List, [], _∷_}
-use Prim.Native.Nat.{ℕ, _-_, _≤_, _<_}
+use Prim.Native.Nat.{ℕ, _+_, _-_, _≤_, _<_}
 use borrow.Author.Tests.{ltb-true, ltb-false, lt-ltb, le-ltb}
 use lib.Dec.{ltb, eqb}
 use lib.IntN.{ℤ}
@@ -10,10 +10,11 @@ use lib.ListN.{length}
 use Rattle.answers.specs.declared.Answer.{Answer}
 use Rattle.answers.specs.Answers.{number}
 use Rattle.answers.specs.Limits.{COEF_LIMIT, WHT_LIMIT, SIDE_LIMIT, LIST_LIMIT, codeable}
-use Rattle.answers.specs.Bad.{badDepth, badSize, badLossless, badKind, badQuantizer, anyBeyond}
+use Rattle.answers.specs.Bad.{badDepth, badSize, badLossless, badTxType, badQuantizer, anyBeyond}
 use Rattle.answers.proofs.Numbers.{Applies, there}
 use Rattle.plane.specs.Place.{areaOf}
 use Rattle.quant.specs.Places.{dequantAll}
+use Rattle.answers.specs.Sizes.{area}
 use Rattle.idct.specs.Driver as D
 use Rattle.reconstruct.specs.Reconstruct as R
 use Rattle.fwd_transform.specs.Quantize as Q
@@ -43,15 +44,15 @@ driver-has : (u : D.Input) (n : ℕ) → W.Driver u n
     → Applies n
     ((2, D.badSide (u .n))
     ∷ (3, badLossless (u .lossless) (u .n - 2))
-    ∷ (4, badKind (u .lossless) (u .n - 2) (u .kind))
+    ∷ (4, badTxType (u .lossless) (u .n - 2) (u .tx-type))
     ∷ (6, D.badRoom (length (u .block)) (u .n))
-    ∷ (9, anyBeyond COEF_LIMIT (D.area (u .n)) (u .block))
+    ∷ (9, anyBeyond COEF_LIMIT (area (u .n)) (u .block))
     ∷ [])
 driver-has u n (W.side h) = here-if 2 _ _ (side-test (u .n) h)
 driver-has u n (W.lossless h) = there (here-if 3 _ _ (T.lossless-test (u .lossless) (u .n - 2) h))
-driver-has u n (W.kind h) = there (there (here-if 4 _ _ (T.kind-test (u .lossless) (u .n - 2) (u .kind) h)))
-driver-has u n (W.room h) = there (there (there (here-if 6 _ _ (lt-ltb (length (u .block)) (D.area (u .n)) h))))
-driver-has u n (W.coefficient h) = there (there (there (there (here-if 9 _ _ (T.beyond-test COEF_LIMIT (D.area (u .n)) (u .block) h)))))
+driver-has u n (W.tx-type h) = there (there (here-if 4 _ _ (T.tx-type-test (u .lossless) (u .n - 2) (u .tx-type) h)))
+driver-has u n (W.room h) = there (there (there (here-if 6 _ _ (lt-ltb (length (u .block)) (area (u .n)) h))))
+driver-has u n (W.coefficient h) = there (there (there (there (here-if 9 _ _ (T.beyond-test COEF_LIMIT (area (u .n)) (u .block) h)))))
 
 driver-exactly : (u : D.Input) → Exactly (W.Driver u) (D.answerOf u)
 unfolding D.answerOf
@@ -59,9 +60,9 @@ driver-exactly u =
     exactly (W.Driver u) _ tt
     (more (λ e. W.side (no-side (u .n) e))
     (more (λ e. W.lossless (T.lossless-at (u .lossless) (u .n - 2) e))
-    (more (λ e. W.kind (T.no-kind (u .lossless) (u .n - 2) (u .kind) e))
-    (more (λ e. W.room (ltb-true (length (u .block)) (D.area (u .n)) e))
-    (more (λ e. W.coefficient (T.some-beyond COEF_LIMIT (D.area (u .n)) (u .block) e)) none)))))
+    (more (λ e. W.tx-type (T.no-tx-type (u .lossless) (u .n - 2) (u .tx-type) e))
+    (more (λ e. W.room (ltb-true (length (u .block)) (area (u .n)) e))
+    (more (λ e. W.coefficient (T.some-beyond COEF_LIMIT (area (u .n)) (u .block) e)) none)))))
     (driver-has u)
 
 -- `inverse_transform_2d` and `inverse_transform_2d_reference`
@@ -110,9 +111,9 @@ reconstruct-has : (u : R.Input) (n : ℕ) → W.Reconstruct u n
     ((1, badDepth (u .depth))
     ∷ (2, badSize (u .size))
     ∷ (3, badLossless (u .lossless) (u .size))
-    ∷ (4, badKind (u .lossless) (u .size) (u .kind))
+    ∷ (4, badTxType (u .lossless) (u .size) (u .tx-type))
     ∷ (5, R.badQuantizers (u .dc) (u .ac))
-    ∷ (6, not (eqb (length (u .tokens)) (R.area (u .size))))
+    ∷ (6, not (eqb (length (u .tokens)) (area (u .size + 2))))
     ∷ (7, R.badPlane (length (u .samples)) (u .plane))
     ∷ (8, anyBeyond (codeable (u .depth)) (length (u .tokens)) (u .tokens))
     ∷ (9, R.badCoefficient (u .size) (u .dc) (u .ac) (u .tokens))
@@ -121,10 +122,10 @@ unfolding R.badCoefficient
 reconstruct-has u n (W.depth h) = here-if 1 _ _ (T.depth-test (u .depth) h)
 reconstruct-has u n (W.size h) = there (here-if 2 _ _ (lt-ltb 3 (u .size) h))
 reconstruct-has u n (W.lossless h) = there (there (here-if 3 _ _ (T.lossless-test (u .lossless) (u .size) h)))
-reconstruct-has u n (W.kind h) = there (there (there (here-if 4 _ _ (T.kind-test (u .lossless) (u .size) (u .kind) h))))
+reconstruct-has u n (W.tx-type h) = there (there (there (here-if 4 _ _ (T.tx-type-test (u .lossless) (u .size) (u .tx-type) h))))
 reconstruct-has u n (W.dc h) = there (there (there (there (here-if 5 _ _ (dc-test u h)))))
 reconstruct-has u n (W.ac h) = there (there (there (there (here-if 5 _ _ (ac-test u h)))))
-reconstruct-has u n (W.count h) = there (there (there (there (there (here-if 6 _ _ (T.differs (length (u .tokens)) (R.area (u .size)) h))))))
+reconstruct-has u n (W.count h) = there (there (there (there (there (here-if 6 _ _ (T.differs (length (u .tokens)) (area (u .size + 2)) h))))))
 reconstruct-has u n (W.wide h) = there (there (there (there (there (there (here-if 7 _ _ (wide-test u h)))))))
 reconstruct-has u n (W.high h) = there (there (there (there (there (there (here-if 7 _ _ (high-test u h)))))))
 reconstruct-has u n (W.samples h) = there (there (there (there (there (there (here-if 7 _ _ (samples-test u h)))))))
@@ -141,9 +142,9 @@ reconstruct-exactly u =
     (more (λ e. W.depth (T.no-depth (u .depth) e))
     (more (λ e. W.size (ltb-true 3 (u .size) e))
     (more (λ e. W.lossless (T.lossless-at (u .lossless) (u .size) e))
-    (more (λ e. W.kind (T.no-kind (u .lossless) (u .size) (u .kind) e))
+    (more (λ e. W.tx-type (T.no-tx-type (u .lossless) (u .size) (u .tx-type) e))
     (more (no-quantizers u)
-    (more (λ e. W.count (T.differ (length (u .tokens)) (R.area (u .size)) e))
+    (more (λ e. W.count (T.differ (length (u .tokens)) (area (u .size + 2)) e))
     (more (no-plane u)
     (more (λ e. W.token (T.some-beyond (codeable (u .depth)) (length (u .tokens)) (u .tokens) e))
     (more (λ e. W.coefficient (T.some-beyond COEF_LIMIT (length (u .tokens)) (dequantAll (u .size) (u .dc) (u .ac) (u .tokens)) e)) none)))))))))

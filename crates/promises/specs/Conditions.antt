@@ -18,9 +18,9 @@ pub record LosslessAt (lossless : Bool) (size : ℕ) : Type 0 where
   pub larger : size ≡ 0 → ⊥
 
 -- 4: not lossless, and either a type above 3 or 32 by 32 with a type other than 0
-pub data NoKind (lossless : Bool) (size kind : ℕ) : Type 0 where
-  above : lossless ≡ false → 3 < kind → NoKind lossless size kind
-  at-32 : lossless ≡ false → size ≡ 3 → (kind ≡ 0 → ⊥) → NoKind lossless size kind
+pub data NoTxType (lossless : Bool) (size tx-type : ℕ) : Type 0 where
+  above : lossless ≡ false → 3 < tx-type → NoTxType lossless size tx-type
+  at-32 : lossless ≡ false → size ≡ 3 → (tx-type ≡ 0 → ⊥) → NoTxType lossless size tx-type
 
 -- 5: a quantizer outside 1 to 32,767
 pub record NoQuantizer (q : ℤ) : Type 0 where

@@ -6,6 +6,7 @@ use lib.IntN.{ℤ}
 use lib.ListN.{length}
 use Rattle.answers.specs.Limits.{COEF_LIMIT, WHT_LIMIT, SIDE_LIMIT, LIST_LIMIT, FILE_LIMIT, AREA_LIMIT, codeable}
 use Rattle.quant.specs.Places.{dequantAll}
+use Rattle.answers.specs.Sizes.{area}
 use Rattle.idct.specs.Driver as D
 use Rattle.reconstruct.specs.Reconstruct as R
 use Rattle.fwd_transform.specs.Quantize as Q
@@ -13,25 +14,25 @@ use Rattle.vbk_read.specs.Bytes.{le1}
 use Rattle.vbk_read.specs.Header.{HEADER_BYTES, versionOf, depthOf, planeArea, firstRecord}
 use Rattle.vbk_read.specs.Records.{HEAD_BYTES, sizeAt, losslessAt, nextAt}
 use Rattle.vbk.specs.Replay.{RECORD_LIMIT}
-use Rattle.promises.specs.Conditions.{NoDepth, LosslessAt, NoKind, NoQuantizer, SomeBeyond}
+use Rattle.promises.specs.Conditions.{NoDepth, LosslessAt, NoTxType, NoQuantizer, SomeBeyond}
 
 -- the 2D driver and the reference driver; the size number is n − 2
 pub data Driver (u : D.Input) : ℕ → Type 0 where
   side : (2 ≤ u .n → u .n ≤ 5 → ⊥) → Driver u 2
   lossless : LosslessAt (u .lossless) (u .n - 2) → Driver u 3
-  kind : NoKind (u .lossless) (u .n - 2) (u .kind) → Driver u 4
-  room : length (u .block) < D.area (u .n) → Driver u 6
-  coefficient : SomeBeyond COEF_LIMIT (D.area (u .n)) (u .block) → Driver u 9
+  tx-type : NoTxType (u .lossless) (u .n - 2) (u .tx-type) → Driver u 4
+  room : length (u .block) < area (u .n) → Driver u 6
+  coefficient : SomeBeyond COEF_LIMIT (area (u .n)) (u .block) → Driver u 9
 
 -- reconstruction
 pub data Reconstruct (u : R.Input) : ℕ → Type 0 where
   depth : NoDepth (u .depth) → Reconstruct u 1
   size : 3 < u .size → Reconstruct u 2
   lossless : LosslessAt (u .lossless) (u .size) → Reconstruct u 3
-  kind : NoKind (u .lossless) (u .size) (u .kind) → Reconstruct u 4
+  tx-type : NoTxType (u .lossless) (u .size) (u .tx-type) → Reconstruct u 4
   dc : NoQuantizer (u .dc .0) → Reconstruct u 5
   ac : NoQuantizer (u .ac .0) → Reconstruct u 5
-  count : (length (u .tokens) ≡ R.area (u .size) → ⊥) → Reconstruct u 6
+  count : (length (u .tokens) ≡ area (u .size + 2) → ⊥) → Reconstruct u 6
   wide : SIDE_LIMIT < u .plane .width → Reconstruct u 7
   high : SIDE_LIMIT < u .plane .height → Reconstruct u 7
   samples : (length (u .samples) ≡ u .plane .width * u .plane .height → ⊥) → Reconstruct u 7
@@ -60,7 +61,7 @@ pub data Header (s : List ℕ) : ℕ → Type 0 where
   version : (versionOf s ≡ 1 → ⊥) → Header s 4
   depth : NoDepth (depthOf s) → Header s 5
   empty : planeArea s ≡ 0 → Header s 6
-  area : AREA_LIMIT < planeArea s → Header s 6
+  wide : AREA_LIMIT < planeArea s → Header s 6
   samples : length s < firstRecord s → Header s 7
 
 -- the number of each step of the header, 0 for none

@@ -38,15 +38,16 @@ use Rattle.blocks.proofs.Live.{dead-at}
 use Rattle.blocks.proofs.Blocks.{block-ext, rows-at, anew-length, anew-at, anew-past}
 use Rattle.blocks.proofs.Inverse.{inverse2d-length, inverse2d-at, inverse2d-past, inverse2d-within, dc-only}
 use Rattle.idct.proofs.Answers.{any-type}
-use Rattle.reconstruct.specs.Reconstruct.{side, area, badQuantizers, Accepted, onlyFirst, residual, added}
+use Rattle.answers.specs.Sizes.{side, area}
+use Rattle.reconstruct.specs.Reconstruct.{badQuantizers, Accepted, onlyFirst, residual, added}
 use Rattle.reconstruct.proofs.Sixteen.{below-sixteen, few-length, few-at}
 use Rattle.reconstruct.proofs.Sizes.{by-size, area-most, side-most, place-fine}
 
 -- ---- lists that agree in the block have the same residual there
-module _ (n kind : ℕ) (lossless : Bool) (s t : List ℤ) (room : 2 ^ n * 2 ^ n ≤ length s) (wide : 2 ^ n * 2 ^ n ≤ length t)
+module _ (n tx-type : ℕ) (lossless : Bool) (s t : List ℤ) (room : 2 ^ n * 2 ^ n ≤ length s) (wide : 2 ^ n * 2 ^ n ≤ length t)
     (e : (k : ℕ) → k < 2 ^ n * 2 ^ n → getD s k (pos 0) ≡ getD t k (pos 0)) where
   R : List ℤ → List ℤ
-  R = apply (rowPass kind lossless) n
+  R = apply (rowPass tx-type lossless) n
 
   same-rows : (i j : ℕ) → i < 2 ^ n → j < 2 ^ n → getD (rows R (2 ^ n) s) (i * 2 ^ n + j) (pos 0) ≡ getD (rows R (2 ^ n) t) (i * 2 ^ n + j) (pos 0)
   same-rows i j hi hj =
@@ -55,25 +56,25 @@ module _ (n kind : ℕ) (lossless : Bool) (s t : List ℤ) (room : 2 ^ n * 2 ^ n
       ∙ sym (rows-at R (2 ^ n) t wide i j hi hj)
 
   pub same-block : (i j : ℕ) → i < 2 ^ n → j < 2 ^ n
-      → getD (inverse2d n kind lossless s) (i * 2 ^ n + j) (pos 0) ≡ getD (inverse2d n kind lossless t) (i * 2 ^ n + j) (pos 0)
+      → getD (inverse2d n tx-type lossless s) (i * 2 ^ n + j) (pos 0) ≡ getD (inverse2d n tx-type lossless t) (i * 2 ^ n + j) (pos 0)
   unfolding R
   same-block i j hi hj =
-      inverse2d-at n kind lossless s room i j hi hj
-      ∙ ap (λ (l : List ℤ). rounding n lossless (getD (apply (columnPass kind lossless) n l) i (pos 0)))
+      inverse2d-at n tx-type lossless s room i j hi hj
+      ∙ ap (λ (l : List ℤ). rounding n lossless (getD (apply (columnPass tx-type lossless) n l) i (pos 0)))
       (line-same j (2 ^ n) (2 ^ n) (rows R (2 ^ n) s) (rows R (2 ^ n) t)
       (λ k l. rw (NatL.add-comm j (k * 2 ^ n)) (same-rows k j l hj)))
-      ∙ sym (inverse2d-at n kind lossless t wide i j hi hj)
+      ∙ sym (inverse2d-at n tx-type lossless t wide i j hi hj)
 
 -- 4 by 4: the residual of the sixteen numbers by themselves, put back
-pub by-front : (kind : ℕ) (lossless : Bool) (block : List ℤ) → length block ≡ 1024
-    → fill 16 (λ k. getD (inverse2d 2 kind lossless (tabulate (λ k. getD block k (pos 0)) 16)) k (pos 0)) block ≡ inverse2d 2 kind lossless block
-by-front kind lossless block h =
+pub by-front : (tx-type : ℕ) (lossless : Bool) (block : List ℤ) → length block ≡ 1024
+    → fill 16 (λ k. getD (inverse2d 2 tx-type lossless (tabulate (λ k. getD block k (pos 0)) 16)) k (pos 0)) block ≡ inverse2d 2 tx-type lossless block
+by-front tx-type lossless block h =
     let f = tabulate (λ k. getD block k (pos 0)) 16 in
-    let g : ℕ → ℤ = λ k. getD (inverse2d 2 kind lossless f) k (pos 0) in
-    block-ext 4 (fill 16 g block) (inverse2d 2 kind lossless block) (length-fill 16 g block ∙ sym (inverse2d-length 2 kind lossless block))
+    let g : ℕ → ℤ = λ k. getD (inverse2d 2 tx-type lossless f) k (pos 0) in
+    block-ext 4 (fill 16 g block) (inverse2d 2 tx-type lossless block) (length-fill 16 g block ∙ sym (inverse2d-length 2 tx-type lossless block))
     (λ i j hi hj. fill-below (pos 0) 16 g block (i * 4 + j) (below-sixteen i j hi hj) (omega (arith, below-sixteen i j hi hj))
-    ∙ same-block 2 kind lossless f block (omega (arith, few-length block)) (omega arith) (few-at block) i j hi hj)
-    (λ p q. fill-rest (pos 0) 16 g block p q ∙ sym (inverse2d-past 2 kind lossless block p q))
+    ∙ same-block 2 tx-type lossless f block (omega (arith, few-length block)) (omega arith) (few-at block) i j hi hj)
+    (λ p q. fill-rest (pos 0) 16 g block p q ∙ sym (inverse2d-past 2 tx-type lossless block p q))
 
 -- and of place 0 alone: one number sixteen times
 pub by-flat : (block : List ℤ) → length block ≡ 1024 → live 1 15 block ≡ false
@@ -106,48 +107,48 @@ unfolding inFront
 in-front n size dc ac tokens z block e h = h ∙ ap (fill n (λ k. dequant size (quantizerAt dc ac k) (getD tokens k (pos 0)))) e
 
 -- ---- tokens that are taken, in a block of 1,024
-module _ (size : ℕ) (dc : DcQuant) (ac : AcQuant) (kind : ℕ) (lossless : Bool) (tokens : List ℤ) (a : Accepted size dc ac kind lossless tokens) where
+module _ (size : ℕ) (dc : DcQuant) (ac : AcQuant) (tx-type : ℕ) (lossless : Bool) (tokens : List ℤ) (a : Accepted size dc ac tx-type lossless tokens) where
   pub size-most : size ≤ 3
   size-most = omega (arith, a .possible .most)
 
-  pub block-length : length (inFront (area size) size dc ac tokens) ≡ 1024
+  pub block-length : length (inFront (area (size + 2)) size dc ac tokens) ≡ 1024
   unfolding inFront
-  block-length = length-fill (area size) _ (replicate 1024 (pos 0)) ∙ length-replicate 1024 (pos 0)
+  block-length = length-fill (area (size + 2)) _ (replicate 1024 (pos 0)) ∙ length-replicate 1024 (pos 0)
 
-  pub block-room : area size ≤ length (inFront (area size) size dc ac tokens)
+  pub block-room : area (size + 2) ≤ length (inFront (area (size + 2)) size dc ac tokens)
   block-room = rw block-length (area-most size size-most)
 
-  all-length : length (dequantAll size dc ac tokens) ≡ area size
+  all-length : length (dequantAll size dc ac tokens) ≡ area (size + 2)
   unfolding dequantAll
   all-length = length-tabulate _ (length tokens) ∙ a .all
 
   -- it agrees with the list of the coefficients
-  block-at : (k : ℕ) → k < area size → getD (inFront (area size) size dc ac tokens) k (pos 0) ≡ getD (dequantAll size dc ac tokens) k (pos 0)
+  block-at : (k : ℕ) → k < area (size + 2) → getD (inFront (area (size + 2)) size dc ac tokens) k (pos 0) ≡ getD (dequantAll size dc ac tokens) k (pos 0)
   unfolding inFront dequantAll
   block-at k h =
-      fill-below (pos 0) (area size) _ (replicate 1024 (pos 0)) k h (rw (length-replicate 1024 (pos 0)) (omega (arith, area-most size size-most)))
+      fill-below (pos 0) (area (size + 2)) _ (replicate 1024 (pos 0)) k h (rw (length-replicate 1024 (pos 0)) (omega (arith, area-most size size-most)))
       ∙ sym (getD-tabulate _ (length tokens) k (pos 0) (rw (a .all) h))
 
-  block-past : (k : ℕ) → area size ≤ k → getD (inFront (area size) size dc ac tokens) k (pos 0) ≡ pos 0
+  block-past : (k : ℕ) → area (size + 2) ≤ k → getD (inFront (area (size + 2)) size dc ac tokens) k (pos 0) ≡ pos 0
   unfolding inFront
-  block-past k h = fill-rest (pos 0) (area size) _ (replicate 1024 (pos 0)) k h ∙ zeros-at 1024 k
+  block-past k h = fill-rest (pos 0) (area (size + 2)) _ (replicate 1024 (pos 0)) k h ∙ zeros-at 1024 k
 
-  pub block-within : FirstWithin (2 ^ 31) (area size) (inFront (area size) size dc ac tokens)
+  pub block-within : FirstWithin (2 ^ 31) (area (size + 2)) (inFront (area (size + 2)) size dc ac tokens)
   block-within = record { each = λ k h. rw (block-at k h) (within-abs (omega (arith, a .coefs k (rw (a .all) h)))) }
 
   -- every number of its residual is within 2^62
-  pub residual-within : AllWithin (2 ^ 62) (inverse2d (size + 2) kind lossless (inFront (area size) size dc ac tokens))
-  residual-within = record { each = λ k. go k (decLt k (area size)) }
+  pub residual-within : AllWithin (2 ^ 62) (inverse2d (size + 2) tx-type lossless (inFront (area (size + 2)) size dc ac tokens))
+  residual-within = record { each = λ k. go k (decLt k (area (size + 2))) }
     where
-      go : (k : ℕ) → Dec (k < area size) → Within (2 ^ 62) (getD (inverse2d (size + 2) kind lossless (inFront (area size) size dc ac tokens)) k (pos 0))
-      go k (yes h) = within-le (omega arith) (inverse2d-within (size + 2) kind lossless (inFront (area size) size dc ac tokens) (a .possible) block-room block-within .each k h)
-      go k (no h) = rw (inverse2d-past (size + 2) kind lossless (inFront (area size) size dc ac tokens) k (omega arith), block-past k (omega arith)) within-zero
+      go : (k : ℕ) → Dec (k < area (size + 2)) → Within (2 ^ 62) (getD (inverse2d (size + 2) tx-type lossless (inFront (area (size + 2)) size dc ac tokens)) k (pos 0))
+      go k (yes h) = within-le (omega arith) (inverse2d-within (size + 2) tx-type lossless (inFront (area (size + 2)) size dc ac tokens) (a .possible) block-room block-within .each k h)
+      go k (no h) = rw (inverse2d-past (size + 2) tx-type lossless (inFront (area (size + 2)) size dc ac tokens) k (omega arith), block-past k (omega arith)) within-zero
 
-  pub residual-at : (i j : ℕ) → i < side size → j < side size
-      → getD (inverse2d (size + 2) kind lossless (inFront (area size) size dc ac tokens)) (i * side size + j) (pos 0) ≡ getD (residual size dc ac kind lossless tokens) (i * side size + j) (pos 0)
+  pub residual-at : (i j : ℕ) → i < side (size + 2) → j < side (size + 2)
+      → getD (inverse2d (size + 2) tx-type lossless (inFront (area (size + 2)) size dc ac tokens)) (i * side (size + 2) + j) (pos 0) ≡ getD (residual size dc ac tx-type lossless tokens) (i * side (size + 2) + j) (pos 0)
   unfolding residual
   residual-at i j hi hj =
-      same-block (size + 2) kind lossless (inFront (area size) size dc ac tokens) (dequantAll size dc ac tokens) block-room (rw all-length (NatL.le-refl (area size))) block-at i j hi hj
+      same-block (size + 2) tx-type lossless (inFront (area (size + 2)) size dc ac tokens) (dequantAll size dc ac tokens) block-room (rw all-length (NatL.le-refl (area (size + 2)))) block-at i j hi hj
 
 -- tokens of 0 at the end of a 4 by 4 block need no product
 pub shorter : (count : ℕ) (dc : DcQuant) (ac : AcQuant) (tokens : List ℤ) → count ≤ 16 → ((k : ℕ) → count ≤ k → k < 16 → getD tokens k (pos 0) ≡ pos 0)
@@ -175,7 +176,7 @@ none-live p zero e = refl
 none-live p (suc n) e = rw (e n (omega arith)) (none-live p n (λ k l. e k (omega arith)))
 
 -- ---- 4 by 4, from the tokens to the residual in a block z of zeros
-module _ (dc : DcQuant) (ac : AcQuant) (kind : ℕ) (lossless : Bool) (tokens : List ℤ) (a : Accepted 0 dc ac kind lossless tokens) (z : List ℤ) (e : z ≡ replicate 1024 (pos 0))
+module _ (dc : DcQuant) (ac : AcQuant) (tx-type : ℕ) (lossless : Bool) (tokens : List ℤ) (a : Accepted 0 dc ac tx-type lossless tokens) (z : List ℤ) (e : z ≡ replicate 1024 (pos 0))
   where
     -- the coefficients, by a count that leaves out tokens of 0 at the end
     pub filled : (count : ℕ) → count ≤ 16 → ((k : ℕ) → count ≤ k → k < 16 → getD tokens k (pos 0) ≡ pos 0) → {block : List ℤ}
@@ -183,7 +184,7 @@ module _ (dc : DcQuant) (ac : AcQuant) (kind : ℕ) (lossless : Bool) (tokens : 
     filled count h d {block} f = in-front count 0 dc ac tokens z block e f ∙ shorter count dc ac tokens h d (a .quantizers)
 
     pub filled-fine : {block : List ℤ} → block ≡ inFront 16 0 dc ac tokens → (length block ≡ 1024) × FirstWithin (2 ^ 31) 16 block
-    filled-fine f = rw f (block-length 0 dc ac kind lossless tokens a, block-within 0 dc ac kind lossless tokens a)
+    filled-fine f = rw f (block-length 0 dc ac tx-type lossless tokens a, block-within 0 dc ac tx-type lossless tokens a)
 
     -- where only place 0 of the tokens is live, so it is of the coefficients
     pub filled-dead : {block : List ℤ} → block ≡ inFront 16 0 dc ac tokens → live 1 15 tokens ≡ false → live 1 15 block ≡ false
@@ -194,44 +195,44 @@ module _ (dc : DcQuant) (ac : AcQuant) (kind : ℕ) (lossless : Bool) (tokens : 
         (λ k l. rw (fill-below (pos 0) 16 (λ k. dequant 0 (quantizerAt dc ac k) (getD tokens k (pos 0))) (replicate 1024 (pos 0)) (1 + k) (omega arith) (rw (length-replicate 1024 (pos 0)) (omega arith)), dead-at 1 15 tokens d k l, zero-token 0 dc ac (a .quantizers) (1 + k))))
 
     -- and the residual is that of the sixteen coefficients
-    pub made : (type : ℕ) (whole : Bool) {block after : List ℤ} → block ≡ inFront 16 0 dc ac tokens → after ≡ inverse2d 2 type whole block
-        → ((s : List ℤ) → inverse2d 2 type whole s ≡ inverse2d 2 kind lossless s)
-        → after ≡ inverse2d 2 kind lossless (fill 16 (λ k. dequant 0 (quantizerAt dc ac k) (getD tokens k (pos 0))) z)
+    pub made : (other : ℕ) (whole : Bool) {block after : List ℤ} → block ≡ inFront 16 0 dc ac tokens → after ≡ inverse2d 2 other whole block
+        → ((s : List ℤ) → inverse2d 2 other whole s ≡ inverse2d 2 tx-type lossless s)
+        → after ≡ inverse2d 2 tx-type lossless (fill 16 (λ k. dequant 0 (quantizerAt dc ac k) (getD tokens k (pos 0))) z)
     unfolding inFront
-    made type whole f m t =
-        m ∙ t _ ∙ ap (inverse2d 2 kind lossless) (f ∙ ap (fill 16 (λ k. dequant 0 (quantizerAt dc ac k) (getD tokens k (pos 0)))) (sym e))
+    made other whole f m t =
+        m ∙ t _ ∙ ap (inverse2d 2 tx-type lossless) (f ∙ ap (fill 16 (λ k. dequant 0 (quantizerAt dc ac k) (getD tokens k (pos 0)))) (sym e))
 
 -- the type is not looked at when lossless
-pub as-lossless : (kind : ℕ) (lossless : Bool) → lossless ≡ true → (s : List ℤ) → inverse2d 2 0 true s ≡ inverse2d 2 kind lossless s
-as-lossless kind lossless l s = any-type 2 kind s ∙ rw l
+pub as-lossless : (tx-type : ℕ) (lossless : Bool) → lossless ≡ true → (s : List ℤ) → inverse2d 2 0 true s ≡ inverse2d 2 tx-type lossless s
+as-lossless tx-type lossless l s = any-type 2 tx-type s ∙ rw l
 
-pub as-lossy : (type kind : ℕ) (lossless : Bool) → kind ≡ type → lossless ≡ false → (s : List ℤ) → inverse2d 2 type false s ≡ inverse2d 2 kind lossless s
-as-lossy type kind lossless t l s = rw (t, l)
+pub as-lossy : (other tx-type : ℕ) (lossless : Bool) → tx-type ≡ other → lossless ≡ false → (s : List ℤ) → inverse2d 2 other false s ≡ inverse2d 2 tx-type lossless s
+as-lossy other tx-type lossless t l s = rw (t, l)
 
 module _ (size : ℕ) (dc : DcQuant) (ac : AcQuant) (tokens : List ℤ) (a : Accepted size dc ac 0 false tokens) (dead : live 1 (length tokens - 1) tokens ≡ false) where
   -- number k of the coefficients
-  coef-is : (k : ℕ) → k < area size → getD (dequantAll size dc ac tokens) k (pos 0) ≡ dequant size (quantizerAt dc ac k) (getD tokens k (pos 0))
+  coef-is : (k : ℕ) → k < area (size + 2) → getD (dequantAll size dc ac tokens) k (pos 0) ≡ dequant size (quantizerAt dc ac k) (getD tokens k (pos 0))
   unfolding dequantAll
   coef-is k h = getD-tabulate _ (length tokens) k (pos 0) (rw (a .all) h)
 
   -- past place 0 it is 0
-  coefs-dead : live 1 (area size - 1) (dequantAll size dc ac tokens) ≡ false
+  coefs-dead : live 1 (area (size + 2) - 1) (dequantAll size dc ac tokens) ≡ false
   unfolding live
   coefs-dead =
-      none-live _ (area size - 1)
+      none-live _ (area (size + 2) - 1)
       (λ k l. let t : getD tokens (1 + k) (pos 0) ≡ pos 0 = dead-at 1 (length tokens - 1) tokens dead k (omega (arith, a .all)) in
       rw (coef-is (1 + k) (omega arith), t, zero-token size dc ac (a .quantizers) (1 + k)))
 
-  pub flat-at : (i j : ℕ) → i < side size → j < side size
-      → dcOnly (size + 2) (dequant size (dc .0) (getD tokens 0 (pos 0))) ≡ getD (residual size dc ac 0 false tokens) (i * side size + j) (pos 0)
+  pub flat-at : (i j : ℕ) → i < side (size + 2) → j < side (size + 2)
+      → dcOnly (size + 2) (dequant size (dc .0) (getD tokens 0 (pos 0))) ≡ getD (residual size dc ac 0 false tokens) (i * side (size + 2) + j) (pos 0)
   unfolding residual quantizerAt
   flat-at i j hi hj =
       let d = dequantAll size dc ac tokens in
-      let room : area size ≤ length d = rw (all-length size dc ac 0 false tokens a) (NatL.le-refl (area size)) in
+      let room : area (size + 2) ≤ length d = rw (all-length size dc ac 0 false tokens a) (NatL.le-refl (area (size + 2))) in
       let first : getD d 0 (pos 0) ≡ dequant size (dc .0) (getD tokens 0 (pos 0)) = coef-is 0 (NatL.mul-pos (pow-pos (size + 2)) (pow-pos (size + 2))) in
       ap (dcOnly (size + 2)) (sym first)
-      ∙ sym (anew-at (side size) (λ i j. dcOnly (size + 2) (getD d 0 (pos 0))) d room i j hi hj)
-      ∙ ap (λ (l : List ℤ). getD l (i * side size + j) (pos 0)) (sym (dc-only (size + 2) (a .possible .least) (a .possible .most) d room coefs-dead))
+      ∙ sym (anew-at (side (size + 2)) (λ i j. dcOnly (size + 2) (getD d 0 (pos 0))) d room i j hi hj)
+      ∙ ap (λ (l : List ℤ). getD l (i * side (size + 2) + j) (pos 0)) (sym (dc-only (size + 2) (a .possible .least) (a .possible .most) d room coefs-dead))
 
 -- ---- the range of the one number
 turned-within : (m : ℕ) {x : ℤ} → Within m x → Within ((m * 11585 + 8192) / 16384) (turned x)
@@ -254,48 +255,48 @@ row-within n v b = record { each = λ k. go k (decLt k n) }
     go k (no h) = rw (List·getD-eq-default (replicate n v) (pos 0) {n = k} (rw (length-replicate n v) (omega arith))) within-zero
 
 -- ---- the type is 0 and place 0 alone is live: one number, added everywhere
-pub some-token : (size : ℕ) → 1 ≤ area size
+pub some-token : (size : ℕ) → 1 ≤ area (size + 2)
 some-token size = NatL.mul-pos (pow-pos (size + 2)) (pow-pos (size + 2))
 
-pub only-first-is : (kind : ℕ) (tokens : List ℤ) → onlyFirst kind tokens ≡ true → (kind ≡ 0) × (live 1 (length tokens - 1) tokens ≡ false)
+pub only-first-is : (tx-type : ℕ) (tokens : List ℤ) → onlyFirst tx-type tokens ≡ true → (tx-type ≡ 0) × (live 1 (length tokens - 1) tokens ≡ false)
 unfolding onlyFirst
-only-first-is kind tokens h = go (eqb kind 0) (live 1 (length tokens - 1) tokens) refl refl
+only-first-is tx-type tokens h = go (eqb tx-type 0) (live 1 (length tokens - 1) tokens) refl refl
   where
-    go : (a b : Bool) → eqb kind 0 ≡ a → live 1 (length tokens - 1) tokens ≡ b → (kind ≡ 0) × (live 1 (length tokens - 1) tokens ≡ false)
-    go true false p q = (eqb-true kind 0 p, q)
+    go : (a b : Bool) → eqb tx-type 0 ≡ a → live 1 (length tokens - 1) tokens ≡ b → (tx-type ≡ 0) × (live 1 (length tokens - 1) tokens ≡ false)
+    go true false p q = (eqb-true tx-type 0 p, q)
     go true true p q = absurd (let z : _≡_ {A = ℕ} 0 1 = cc (rw (p, q) at h) in omega arith)
     go false b p q = absurd (let z : _≡_ {A = ℕ} 0 1 = cc (rw p at h) in omega arith)
 
-pub not-lossless : (size kind : ℕ) (lossless : Bool) → Possible (size + 2) kind lossless → (size ≡ 0 → ⊥) → lossless ≡ false
-not-lossless size kind true p h = absurd (h (omega (arith, p .small refl)))
-not-lossless size kind false p h = refl
+pub not-lossless : (size tx-type : ℕ) (lossless : Bool) → Possible (size + 2) tx-type lossless → (size ≡ 0 → ⊥) → lossless ≡ false
+not-lossless size tx-type true p h = absurd (h (omega (arith, p .small refl)))
+not-lossless size tx-type false p h = refl
 
 -- and so the flag may be put in
-pub lossy-taken : (size : ℕ) (dc : DcQuant) (ac : AcQuant) (kind : ℕ) (lossless : Bool) (tokens : List ℤ) → lossless ≡ false → Accepted size dc ac kind lossless tokens → Accepted size dc ac kind false tokens
-lossy-taken size dc ac kind lossless tokens e a = rw e at a
+pub lossy-taken : (size : ℕ) (dc : DcQuant) (ac : AcQuant) (tx-type : ℕ) (lossless : Bool) (tokens : List ℤ) → lossless ≡ false → Accepted size dc ac tx-type lossless tokens → Accepted size dc ac tx-type false tokens
+lossy-taken size dc ac tx-type lossless tokens e a = rw e at a
 
-pub lossy-added : (p : Plane) (top x y size : ℕ) (dc : DcQuant) (ac : AcQuant) (kind : ℕ) (lossless : Bool) (tokens : List ℤ) (samples : List ℕ) → lossless ≡ false
-    → added p top x y size dc ac kind false tokens samples ≡ added p top x y size dc ac kind lossless tokens samples
-lossy-added p top x y size dc ac kind lossless tokens samples e = rw e
+pub lossy-added : (p : Plane) (top x y size : ℕ) (dc : DcQuant) (ac : AcQuant) (tx-type : ℕ) (lossless : Bool) (tokens : List ℤ) (samples : List ℕ) → lossless ≡ false
+    → added p top x y size dc ac tx-type false tokens samples ≡ added p top x y size dc ac tx-type lossless tokens samples
+lossy-added p top x y size dc ac tx-type lossless tokens samples e = rw e
 
 flat-plain : (p : Plane) (top x y size : ℕ) (dc : DcQuant) (ac : AcQuant) (tokens : List ℤ) (samples : List ℕ) → SamplesOf p samples
     → Accepted size dc ac 0 false tokens → live 1 (length tokens - 1) tokens ≡ false
-    → planeAfter p top x y (side size) (λ i j. dcOnly (size + 2) (dequant size (dc .0) (getD tokens 0 (pos 0)))) samples ≡ added p top x y size dc ac 0 false tokens samples
+    → planeAfter p top x y (side (size + 2)) (λ i j. dcOnly (size + 2) (dequant size (dc .0) (getD tokens 0 (pos 0)))) samples ≡ added p top x y size dc ac 0 false tokens samples
 unfolding added
 flat-plain p top x y size dc ac tokens samples s a dead =
-    same-residuals p samples s top x y (side size) (λ i j. dcOnly (size + 2) (dequant size (dc .0) (getD tokens 0 (pos 0)))) _ (flat-at size dc ac tokens a dead)
+    same-residuals p samples s top x y (side (size + 2)) (λ i j. dcOnly (size + 2) (dequant size (dc .0) (getD tokens 0 (pos 0)))) _ (flat-at size dc ac tokens a dead)
 
-pub flat-added : (p : Plane) (top x y size : ℕ) (dc : DcQuant) (ac : AcQuant) (kind : ℕ) (lossless : Bool) (tokens : List ℤ) (samples : List ℕ) → SamplesOf p samples
-    → Accepted size dc ac kind lossless tokens → lossless ≡ false → onlyFirst kind tokens ≡ true
-    → planeAfter p top x y (side size) (λ i j. dcOnly (size + 2) (dequant size (dc .0) (getD tokens 0 (pos 0)))) samples ≡ added p top x y size dc ac kind lossless tokens samples
-flat-added p top x y size dc ac kind lossless tokens samples s a l o =
-    let k = only-first-is kind tokens o in
+pub flat-added : (p : Plane) (top x y size : ℕ) (dc : DcQuant) (ac : AcQuant) (tx-type : ℕ) (lossless : Bool) (tokens : List ℤ) (samples : List ℕ) → SamplesOf p samples
+    → Accepted size dc ac tx-type lossless tokens → lossless ≡ false → onlyFirst tx-type tokens ≡ true
+    → planeAfter p top x y (side (size + 2)) (λ i j. dcOnly (size + 2) (dequant size (dc .0) (getD tokens 0 (pos 0)))) samples ≡ added p top x y size dc ac tx-type lossless tokens samples
+flat-added p top x y size dc ac tx-type lossless tokens samples s a l o =
+    let k = only-first-is tx-type tokens o in
     rw (k .0, l) (flat-plain p top x y size dc ac tokens samples s (rw (k .0, l) at a) (k .1))
 
 -- the first coefficient is within its limit
-pub first-within : (size : ℕ) (dc : DcQuant) (ac : AcQuant) (kind : ℕ) (lossless : Bool) (tokens : List ℤ) → Accepted size dc ac kind lossless tokens
+pub first-within : (size : ℕ) (dc : DcQuant) (ac : AcQuant) (tx-type : ℕ) (lossless : Bool) (tokens : List ℤ) → Accepted size dc ac tx-type lossless tokens
     → natAbs (dequant size (dc .0) (getD tokens 0 (pos 0))) ≤ COEF_LIMIT
 unfolding dequantAll quantizerAt
-first-within size dc ac kind lossless tokens a =
+first-within size dc ac tx-type lossless tokens a =
     let h : 0 < length tokens = rw (a .all) (some-token size) in
     rw (getD-tabulate (λ k. dequant size (quantizerAt dc ac k) (getD tokens k (pos 0))) (length tokens) 0 (pos 0) h) at (a .coefs 0 h)

@@ -9,7 +9,8 @@ use Rattle.answers.specs.Bad.{badQuantizer}
 use Rattle.quant.specs.declared.DcQuant.{DcQuant}
 use Rattle.quant.specs.declared.AcQuant.{AcQuant}
 use Rattle.quant.specs.Places.{quantizerAt}
-use Rattle.reconstruct.specs.Reconstruct.{side, area, badQuantizers}
+use Rattle.answers.specs.Sizes.{side, area}
+use Rattle.reconstruct.specs.Reconstruct.{badQuantizers}
 
 pub by-size : (Q : ℕ → Type 0) → Q 0 → Q 1 → Q 2 → Q 3 → (size : ℕ) → size ≤ 3 → Q size
 by-size Q a b c d zero h = a
@@ -18,11 +19,11 @@ by-size Q a b c d (suc (suc zero)) h = c
 by-size Q a b c d (suc (suc (suc zero))) h = d
 by-size Q a b c d (suc (suc (suc (suc size)))) h = absurd (omega arith)
 
-pub side-most : (size : ℕ) → size ≤ 3 → side size ≤ 32
-side-most = by-size (λ s. side s ≤ 32) (omega arith) (omega arith) (omega arith) (omega arith)
+pub side-most : (size : ℕ) → size ≤ 3 → side (size + 2) ≤ 32
+side-most = by-size (λ s. side (s + 2) ≤ 32) (omega arith) (omega arith) (omega arith) (omega arith)
 
-pub area-most : (size : ℕ) → size ≤ 3 → area size ≤ 1024
-area-most = by-size (λ s. area s ≤ 1024) (omega arith) (omega arith) (omega arith) (omega arith)
+pub area-most : (size : ℕ) → size ≤ 3 → area (size + 2) ≤ 1024
+area-most = by-size (λ s. area (s + 2) ≤ 1024) (omega arith) (omega arith) (omega arith) (omega arith)
 
 -- quantizers that are both in range
 neither : (a b : Bool) → a || b ≡ false → (a ≡ false) × (b ≡ false)
@@ -48,5 +49,5 @@ module _ (dc : DcQuant) (ac : AcQuant) (h : badQuantizers dc ac ≡ false) where
       go false = ac-fine
 
 -- a row and a column of a block are a place of it
-pub in-block : (size i j : ℕ) → i < side size → j < side size → i * side size + j < area size
+pub in-block : (size i j : ℕ) → i < side (size + 2) → j < side (size + 2) → i * side (size + 2) + j < area (size + 2)
 in-block size i j hi hj = digits-lt hi hj

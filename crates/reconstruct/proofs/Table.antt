@@ -11,14 +11,15 @@ use lib.IntN.{ℤ, pos, natAbs}
 use lib.ListN.{length, getD}
 use Rattle.answers.specs.declared.Answer.{Answer}
 use Rattle.answers.specs.Limits.{COEF_LIMIT, SIDE_LIMIT, codeable}
-use Rattle.answers.specs.Bad.{badDepth, badSize, badLossless, badKind, anyBeyond}
+use Rattle.answers.specs.Bad.{badDepth, badSize, badLossless, badTxType, anyBeyond}
 use Rattle.answers.proofs.Numbers.{number-injective, pass, rest}
 use Rattle.answers.proofs.Passed.{codeable-most, none-beyond}
 use Rattle.quant.specs.Places.{dequantAll}
 use Rattle.plane.specs.declared.Plane.{Plane}
 use Rattle.plane.specs.Place.{SamplesOf, areaOf}
 use Rattle.blocks.specs.Inverse.{Possible}
-use Rattle.reconstruct.specs.Reconstruct.{Input, area, largest, badQuantizers, badPlane, badCoefficient, answerOf, tokenAnswer, shapeOf, Accepted, added, samplesAfter, Reconstructed}
+use Rattle.answers.specs.Sizes.{area}
+use Rattle.reconstruct.specs.Reconstruct.{Input, largest, badQuantizers, badPlane, badCoefficient, answerOf, tokenAnswer, shapeOf, Accepted, added, samplesAfter, Reconstructed}
 
 -- y goes on where x gives 0, and is x where it does not
 record Goes (t x y : ℕ) : Type 0 where
@@ -33,23 +34,23 @@ one-more t true n g = record { on = λ e. absurd (omega arith); stop = λ h. ref
 one-more t false n g = g
 
 module _ (u : Input) where
-  parts : Goes (tokenAnswer (u .size) (u .dc) (u .ac) (u .depth) (u .tokens)) (shapeOf (length (u .samples)) (u .plane) (u .size) (length (u .tokens)) (u .dc) (u .ac) (u .kind) (u .lossless) (u .depth)) (answerOf u)
+  parts : Goes (tokenAnswer (u .size) (u .dc) (u .ac) (u .depth) (u .tokens)) (shapeOf (length (u .samples)) (u .plane) (u .size) (length (u .tokens)) (u .dc) (u .ac) (u .tx-type) (u .lossless) (u .depth)) (answerOf u)
   unfolding answerOf tokenAnswer shapeOf
   parts =
       one-more _ (badDepth (u .depth)) 0
       (one-more _ (badSize (u .size)) 1
       (one-more _ (badLossless (u .lossless) (u .size)) 2
-      (one-more _ (badKind (u .lossless) (u .size) (u .kind)) 3
+      (one-more _ (badTxType (u .lossless) (u .size) (u .tx-type)) 3
       (one-more _ (badQuantizers (u .dc) (u .ac)) 4
-      (one-more _ (not (eqb (length (u .tokens)) (area (u .size)))) 5
+      (one-more _ (not (eqb (length (u .tokens)) (area (u .size + 2)))) 5
       (one-more _ (badPlane (length (u .samples)) (u .plane)) 6
       (at-end _)))))))
 
-  pub shape-stops : (shapeOf (length (u .samples)) (u .plane) (u .size) (length (u .tokens)) (u .dc) (u .ac) (u .kind) (u .lossless) (u .depth) ≡ 0 → ⊥)
-      → answerOf u ≡ shapeOf (length (u .samples)) (u .plane) (u .size) (length (u .tokens)) (u .dc) (u .ac) (u .kind) (u .lossless) (u .depth)
+  pub shape-stops : (shapeOf (length (u .samples)) (u .plane) (u .size) (length (u .tokens)) (u .dc) (u .ac) (u .tx-type) (u .lossless) (u .depth) ≡ 0 → ⊥)
+      → answerOf u ≡ shapeOf (length (u .samples)) (u .plane) (u .size) (length (u .tokens)) (u .dc) (u .ac) (u .tx-type) (u .lossless) (u .depth)
   shape-stops = parts .stop
 
-  pub shape-passes : shapeOf (length (u .samples)) (u .plane) (u .size) (length (u .tokens)) (u .dc) (u .ac) (u .kind) (u .lossless) (u .depth) ≡ 0
+  pub shape-passes : shapeOf (length (u .samples)) (u .plane) (u .size) (length (u .tokens)) (u .dc) (u .ac) (u .tx-type) (u .lossless) (u .depth) ≡ 0
       → answerOf u ≡ tokenAnswer (u .size) (u .dc) (u .ac) (u .depth) (u .tokens)
   shape-passes = parts .on
 
@@ -59,7 +60,7 @@ module _ (u : Input) where
   refused h = rw (ne-eqb (answerOf u) 0 h)
 
   pub done : answerOf u ≡ 0
-      → added (u .plane) (largest (u .depth)) (u .x) (u .y) (u .size) (u .dc) (u .ac) (u .kind) (u .lossless) (u .tokens) (u .samples) ≡ samplesAfter u
+      → added (u .plane) (largest (u .depth)) (u .x) (u .y) (u .size) (u .dc) (u .ac) (u .tx-type) (u .lossless) (u .tokens) (u .samples) ≡ samplesAfter u
   unfolding samplesAfter
   done h = rw (eq-eqb (answerOf u) 0 h)
 
@@ -78,50 +79,50 @@ plane-fine samples p h =
       all = eqb-true (length samples) (areaOf p) (not-false (eqb (length samples) (areaOf p)) (b .1));
     }
 
-possible : (size kind : ℕ) (lossless : Bool) → size ≤ 3 → badLossless lossless size ≡ false → badKind lossless size kind ≡ false → Possible (size + 2) kind lossless
-unfolding badLossless badKind
-possible size kind true h a b =
+possible : (size tx-type : ℕ) (lossless : Bool) → size ≤ 3 → badLossless lossless size ≡ false → badTxType lossless size tx-type ≡ false → Possible (size + 2) tx-type lossless
+unfolding badLossless badTxType
+possible size tx-type true h a b =
     let e : size ≡ 0 = eqb-true size 0 (not-false (eqb size 0) a) in
     record { least = omega arith; most = omega arith; large = λ f. absurd (let z : _≡_ {A = ℕ} 0 1 = cc in omega arith); small = λ f. omega arith }
-possible size kind false h a b = record {
+possible size tx-type false h a b = record {
   least = omega arith;
   most = omega arith;
-  large = λ f e. large (eqb kind 0) refl (neither (ltb 3 kind) (eqb size 3 && not (eqb kind 0)) b .1) (eq-eqb size 3 (omega arith));
+  large = λ f e. large (eqb tx-type 0) refl (neither (ltb 3 tx-type) (eqb size 3 && not (eqb tx-type 0)) b .1) (eq-eqb size 3 (omega arith));
   small = λ f. absurd (let z : _≡_ {A = ℕ} 0 1 = cc in omega arith);
 }
   where
-    large : (c : Bool) → eqb kind 0 ≡ c → eqb size 3 && not (eqb kind 0) ≡ false → eqb size 3 ≡ true → kind ≡ 0
-    large true p q r = eqb-true kind 0 p
+    large : (c : Bool) → eqb tx-type 0 ≡ c → eqb size 3 && not (eqb tx-type 0) ≡ false → eqb size 3 ≡ true → tx-type ≡ 0
+    large true p q r = eqb-true tx-type 0 p
     large false p q r = absurd (let z : _≡_ {A = ℕ} 0 1 = cc (rw (r, p) at q) in omega arith)
 
 -- what the first part passes
 pub record Shaped (u : Input) : Type 0 where
   pub depth-ok : badDepth (u .depth) ≡ false
   pub quantizers-ok : badQuantizers (u .dc) (u .ac) ≡ false
-  pub possible-ok : Possible (u .size + 2) (u .kind) (u .lossless)
-  pub length-ok : length (u .tokens) ≡ area (u .size)
+  pub possible-ok : Possible (u .size + 2) (u .tx-type) (u .lossless)
+  pub length-ok : length (u .tokens) ≡ area (u .size + 2)
   pub samples-ok : SamplesOf (u .plane) (u .samples)
 
-pub shaped : (u : Input) → shapeOf (length (u .samples)) (u .plane) (u .size) (length (u .tokens)) (u .dc) (u .ac) (u .kind) (u .lossless) (u .depth) ≡ 0 → Shaped u
+pub shaped : (u : Input) → shapeOf (length (u .samples)) (u .plane) (u .size) (length (u .tokens)) (u .dc) (u .ac) (u .tx-type) (u .lossless) (u .depth) ≡ 0 → Shaped u
 unfolding shapeOf
 shaped u h =
     let h2 = rest (badDepth (u .depth)) 0 _ h in
     let h3 = rest (badSize (u .size)) 1 _ h2 in
     let h4 = rest (badLossless (u .lossless) (u .size)) 2 _ h3 in
-    let h5 = rest (badKind (u .lossless) (u .size) (u .kind)) 3 _ h4 in
+    let h5 = rest (badTxType (u .lossless) (u .size) (u .tx-type)) 3 _ h4 in
     let h6 = rest (badQuantizers (u .dc) (u .ac)) 4 _ h5 in
-    let h7 = rest (not (eqb (length (u .tokens)) (area (u .size)))) 5 _ h6 in
+    let h7 = rest (not (eqb (length (u .tokens)) (area (u .size + 2)))) 5 _ h6 in
     record {
       depth-ok = pass (badDepth (u .depth)) 0 _ h;
       quantizers-ok = pass (badQuantizers (u .dc) (u .ac)) 4 _ h5;
-      possible-ok = possible (u .size) (u .kind) (u .lossless) (ltb-false 3 (u .size) (pass (badSize (u .size)) 1 _ h2)) (pass (badLossless (u .lossless) (u .size)) 2 _ h3)
-          (pass (badKind (u .lossless) (u .size) (u .kind)) 3 _ h4);
-      length-ok = eqb-true (length (u .tokens)) (area (u .size)) (not-false (eqb (length (u .tokens)) (area (u .size))) (pass (not (eqb (length (u .tokens)) (area (u .size)))) 5 _ h6));
+      possible-ok = possible (u .size) (u .tx-type) (u .lossless) (ltb-false 3 (u .size) (pass (badSize (u .size)) 1 _ h2)) (pass (badLossless (u .lossless) (u .size)) 2 _ h3)
+          (pass (badTxType (u .lossless) (u .size) (u .tx-type)) 3 _ h4);
+      length-ok = eqb-true (length (u .tokens)) (area (u .size + 2)) (not-false (eqb (length (u .tokens)) (area (u .size + 2))) (pass (not (eqb (length (u .tokens)) (area (u .size + 2)))) 5 _ h6));
       samples-ok = plane-fine (u .samples) (u .plane) (pass (badPlane (length (u .samples)) (u .plane)) 6 _ h7);
     }
 
 -- what answer 0 says of the tokens
-pub accepted : (u : Input) → Shaped u → tokenAnswer (u .size) (u .dc) (u .ac) (u .depth) (u .tokens) ≡ 0 → Accepted (u .size) (u .dc) (u .ac) (u .kind) (u .lossless) (u .tokens)
+pub accepted : (u : Input) → Shaped u → tokenAnswer (u .size) (u .dc) (u .ac) (u .depth) (u .tokens) ≡ 0 → Accepted (u .size) (u .dc) (u .ac) (u .tx-type) (u .lossless) (u .tokens)
 unfolding tokenAnswer badCoefficient
 accepted u s h =
     let n = length (u .tokens) in

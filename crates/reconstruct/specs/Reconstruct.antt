@@ -9,7 +9,8 @@ use lib.ListN.{length, getD}
 use Rattle.answers.specs.declared.Answer.{Answer}
 use Rattle.answers.specs.Answers.{number, lowest}
 use Rattle.answers.specs.Limits.{COEF_LIMIT, SIDE_LIMIT, codeable}
-use Rattle.answers.specs.Bad.{badDepth, badSize, badLossless, badKind, badQuantizer, anyBeyond}
+use Rattle.answers.specs.Sizes.{side, area}
+use Rattle.answers.specs.Bad.{badDepth, badSize, badLossless, badTxType, badQuantizer, anyBeyond}
 use Rattle.quant.specs.declared.DcQuant.{DcQuant}
 use Rattle.quant.specs.declared.AcQuant.{AcQuant}
 use Rattle.quant.specs.Places.{dequantAll}
@@ -29,17 +30,9 @@ pub record Input : Type 0 where
   pub tokens : List ℤ
   pub dc : DcQuant
   pub ac : AcQuant
-  pub kind : ℕ
+  pub tx-type : ℕ
   pub lossless : Bool
   pub depth : ℕ
-
--- n0 of a size number: 4, 8, 16, 32
-abbrev pub side : ℕ → ℕ
-side size = 2 ^ (size + 2)
-
--- how many numbers a block has
-abbrev pub area : ℕ → ℕ
-area size = side size * side size
 
 -- the largest sample
 abbrev pub largest : ℕ → ℕ
@@ -65,9 +58,9 @@ answerOf u =
     (1, badDepth (u .depth))
     ∷ (2, badSize (u .size))
     ∷ (3, badLossless (u .lossless) (u .size))
-    ∷ (4, badKind (u .lossless) (u .size) (u .kind))
+    ∷ (4, badTxType (u .lossless) (u .size) (u .tx-type))
     ∷ (5, badQuantizers (u .dc) (u .ac))
-    ∷ (6, not (eqb (length (u .tokens)) (area (u .size))))
+    ∷ (6, not (eqb (length (u .tokens)) (area (u .size + 2))))
     ∷ (7, badPlane (length (u .samples)) (u .plane))
     ∷ (8, anyBeyond (codeable (u .depth)) (length (u .tokens)) (u .tokens))
     ∷ (9, badCoefficient (u .size) (u .dc) (u .ac) (u .tokens))
@@ -81,45 +74,45 @@ tokenAnswer size dc ac depth tokens =
 
 -- the part of the table that needs no token and no sample, only how many there are
 unfoldable pub shapeOf : ℕ → Plane → ℕ → ℕ → DcQuant → AcQuant → ℕ → Bool → ℕ → ℕ
-shapeOf samples plane size tokens dc ac kind lossless depth =
+shapeOf samples plane size tokens dc ac tx-type lossless depth =
     lowest
     (
     (1, badDepth depth)
     ∷ (2, badSize size)
     ∷ (3, badLossless lossless size)
-    ∷ (4, badKind lossless size kind)
+    ∷ (4, badTxType lossless size tx-type)
     ∷ (5, badQuantizers dc ac)
-    ∷ (6, not (eqb tokens (area size)))
+    ∷ (6, not (eqb tokens (area (size + 2))))
     ∷ (7, badPlane samples plane)
     ∷ []
     )
 
 -- tokens that are taken: the table has nothing against them, their number, their quantizers, the size and the type
-pub record Accepted (size : ℕ) (dc : DcQuant) (ac : AcQuant) (kind : ℕ) (lossless : Bool) (tokens : List ℤ) : Type 0 where
-  pub possible : Possible (size + 2) kind lossless
+pub record Accepted (size : ℕ) (dc : DcQuant) (ac : AcQuant) (tx-type : ℕ) (lossless : Bool) (tokens : List ℤ) : Type 0 where
+  pub possible : Possible (size + 2) tx-type lossless
   pub quantizers : badQuantizers dc ac ≡ false
-  pub all : length tokens ≡ area size
+  pub all : length tokens ≡ area (size + 2)
   pub codeables : (k : ℕ) → k < length tokens → natAbs (getD tokens k (pos 0)) ≤ codeable 12
   pub coefs : (k : ℕ) → k < length tokens → natAbs (getD (dequantAll size dc ac tokens) k (pos 0)) ≤ COEF_LIMIT
 
 -- the type is 0, and of the tokens only that at place 0 is live
 unfoldable pub onlyFirst : ℕ → List ℤ → Bool
-onlyFirst kind tokens = eqb kind 0 && not (live 1 (length tokens - 1) tokens)
+onlyFirst tx-type tokens = eqb tx-type 0 && not (live 1 (length tokens - 1) tokens)
 
 -- the residual, step 3 of §8.6.2: the inverse transform of the coefficients
 unfoldable pub residual : ℕ → DcQuant → AcQuant → ℕ → Bool → List ℤ → List ℤ
-residual size dc ac kind lossless tokens = inverse2d (size + 2) kind lossless (dequantAll size dc ac tokens)
+residual size dc ac tx-type lossless tokens = inverse2d (size + 2) tx-type lossless (dequantAll size dc ac tokens)
 
 -- the samples after the residual is added back, step 4 of §8.6.2, each clipped to 0 .. top
 unfoldable pub added : Plane → ℕ → ℕ → ℕ → ℕ → DcQuant → AcQuant → ℕ → Bool → List ℤ → List ℕ → List ℕ
-added plane top x y size dc ac kind lossless tokens samples =
-    planeAfter plane top x y (side size) (λ i j. getD (residual size dc ac kind lossless tokens) (i * side size + j) (pos 0)) samples
+added plane top x y size dc ac tx-type lossless tokens samples =
+    planeAfter plane top x y (side (size + 2)) (λ i j. getD (residual size dc ac tx-type lossless tokens) (i * side (size + 2) + j) (pos 0)) samples
 
 -- the samples afterwards: as they were under a refusal
 unfoldable pub samplesAfter : Input → List ℕ
 samplesAfter u =
     cond (eqb (answerOf u) 0)
-    (added (u .plane) (largest (u .depth)) (u .x) (u .y) (u .size) (u .dc) (u .ac) (u .kind) (u .lossless) (u .tokens) (u .samples))
+    (added (u .plane) (largest (u .depth)) (u .x) (u .y) (u .size) (u .dc) (u .ac) (u .tx-type) (u .lossless) (u .tokens) (u .samples))
     (u .samples)
 
 -- the promise: the answer, and the samples afterwards

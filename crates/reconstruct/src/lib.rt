@@ -3,9 +3,9 @@ use answers::COEF_LIMIT;
 use answers::SIDE_LIMIT;
 use answers::any_beyond;
 use answers::bad_depth;
-use answers::bad_kind;
 use answers::bad_lossless;
 use answers::bad_size;
+use answers::bad_tx_type;
 use answers::code;
 use answers::magnitude;
 use blocks::any_live;
@@ -31,12 +31,13 @@ ghost use Rattle.plane.specs.Plane.{planeAfter};
 ghost use Rattle.blocks.specs.Block.{live, FirstWithin};
 ghost use Rattle.blocks.specs.Inverse.{inverse2d, dcOnly};
 ghost use Rattle.reconstruct.specs.Bound.{Bounds, SmallTokens, anyAbove};
-ghost use Rattle.reconstruct.specs.Reconstruct.{side, largest, badQuantizers, badPlane, shapeOf, tokenAnswer, Accepted, added, onlyFirst, Reconstructed};
+ghost use Rattle.answers.specs.Sizes.{side};
+ghost use Rattle.reconstruct.specs.Reconstruct.{largest, badQuantizers, badPlane, shapeOf, tokenAnswer, Accepted, added, onlyFirst, Reconstructed};
 
 // n0, the numbers of a row of the block.
 fn side(size: u32) -> usize
     requires { ⌜ size ≤ 3 ⌝ }
-    ensures { λ r. ⌜ r ≡ side size ⌝ }
+    ensures { λ r. ⌜ r ≡ side (size + 2) ⌝ }
 {
     match size {
         0 => 4,
@@ -91,11 +92,11 @@ fn check(
     tokens: usize,
     dc_quant: DcQuant,
     ac_quant: AcQuant,
-    kind: u8,
+    tx_type: u8,
     lossless: bool,
     depth: u32,
 ) -> Answer
-    ensures { λ r. ⌜ number r ≡ shapeOf samples plane size tokens «dc_quant» «ac_quant» kind lossless depth ⌝ }
+    ensures { λ r. ⌜ number r ≡ shapeOf samples plane size tokens «dc_quant» «ac_quant» «tx_type» lossless depth ⌝ }
 {
     if bad_depth(depth) {
         return Answer::Depth;
@@ -106,8 +107,8 @@ fn check(
     if bad_lossless(lossless, size) {
         return Answer::LosslessSize;
     }
-    if bad_kind(lossless, size, kind) {
-        return Answer::Kind;
+    if bad_tx_type(lossless, size, tx_type) {
+        return Answer::TxType;
     }
     if bad_quantizers(dc_quant, ac_quant) {
         return Answer::Quantizer;
@@ -307,12 +308,12 @@ fn wht4(block: &mut [i64; 1024])
 }
 
 // The same not lossless.
-fn lossy4(block: &mut [i64; 1024], kind: u8)
+fn lossy4(block: &mut [i64; 1024], tx_type: u8)
     requires { ⌜ (length (now block) ≡ 1024) × FirstWithin (2 ^ 31) 16 (now block) ⌝ }
-    ensures { λ _. ⌜ now (block .exit) ≡ inverse2d 2 kind false (now (block .entry)) ⌝ }
+    ensures { λ _. ⌜ now (block .exit) ≡ inverse2d 2 «tx_type» false (now (block .entry)) ⌝ }
 {
     let mut few = front(block);
-    idct::fast::inverse4(&mut few, kind);
+    idct::fast::inverse4(&mut few, tx_type);
     put_front(block, &few);
 }
 
@@ -338,11 +339,11 @@ fn residual4(
     tokens: &[i64],
     dc_quant: DcQuant,
     ac_quant: AcQuant,
-    kind: u8,
+    tx_type: u8,
     lossless: bool,
 )
-    requires { ⌜ (now block ≡ replicate 1024 (pos 0)) × Accepted 0 «dc_quant» «ac_quant» kind lossless (now tokens) ⌝ }
-    ensures { λ _. ⌜ now (block .exit) ≡ inverse2d 2 kind lossless (fill 16 (λ k. dequant 0 (quantizerAt «dc_quant» «ac_quant» k) (getD (now (tokens .entry)) k (pos 0))) (now (block .entry))) ⌝ }
+    requires { ⌜ (now block ≡ replicate 1024 (pos 0)) × Accepted 0 «dc_quant» «ac_quant» «tx_type» lossless (now tokens) ⌝ }
+    ensures { λ _. ⌜ now (block .exit) ≡ inverse2d 2 «tx_type» lossless (fill 16 (λ k. dequant 0 (quantizerAt «dc_quant» «ac_quant» k) (getD (now (tokens .entry)) k (pos 0))) (now (block .entry))) ⌝ }
 {
     if lossless {
         if any_live(tokens, 8, 8) {
@@ -359,13 +360,13 @@ fn residual4(
         wht4(block);
         return;
     }
-    if only_first(tokens, 16, kind) {
+    if only_first(tokens, 16, tx_type) {
         dequantize(block, tokens, 1, 0, dc_quant, ac_quant);
         flat4(block);
         return;
     }
     dequantize(block, tokens, 16, 0, dc_quant, ac_quant);
-    lossy4(block, kind);
+    lossy4(block, tx_type);
 }
 
 // Sixteen residuals into the plane, some of them cut off; columns are literals, for speed.
@@ -409,15 +410,15 @@ fn reconstruct_4(
     tokens: &[i64],
     dc_quant: DcQuant,
     ac_quant: AcQuant,
-    kind: u8,
+    tx_type: u8,
     lossless: bool,
     top: u16,
 )
-    requires { ⌜ SamplesOf plane (now samples) × Accepted 0 «dc_quant» «ac_quant» kind lossless (now tokens) ⌝ }
-    ensures { λ _. ⌜ now (samples .exit) ≡ added plane top x y 0 «dc_quant» «ac_quant» kind lossless (now (tokens .entry)) (now (samples .entry)) ⌝ }
+    requires { ⌜ SamplesOf plane (now samples) × Accepted 0 «dc_quant» «ac_quant» «tx_type» lossless (now tokens) ⌝ }
+    ensures { λ _. ⌜ now (samples .exit) ≡ added plane top x y 0 «dc_quant» «ac_quant» «tx_type» lossless (now (tokens .entry)) (now (samples .entry)) ⌝ }
 {
     let mut block = zeros();
-    residual4(&mut block, tokens, dc_quant, ac_quant, kind, lossless);
+    residual4(&mut block, tokens, dc_quant, ac_quant, tx_type, lossless);
     add_back4(samples, plane, x, y, &block, top);
 }
 
@@ -431,15 +432,15 @@ fn reconstruct_n(
     tokens: &[i64],
     dc_quant: DcQuant,
     ac_quant: AcQuant,
-    kind: u8,
+    tx_type: u8,
     top: u16,
 )
-    requires { ⌜ SamplesOf plane (now samples) × Accepted size «dc_quant» «ac_quant» kind false (now tokens) ⌝ }
-    ensures { λ _. ⌜ now (samples .exit) ≡ added plane top x y size «dc_quant» «ac_quant» kind false (now (tokens .entry)) (now (samples .entry)) ⌝ }
+    requires { ⌜ SamplesOf plane (now samples) × Accepted size «dc_quant» «ac_quant» «tx_type» false (now tokens) ⌝ }
+    ensures { λ _. ⌜ now (samples .exit) ≡ added plane top x y size «dc_quant» «ac_quant» «tx_type» false (now (tokens .entry)) (now (samples .entry)) ⌝ }
 {
     let mut block = zeros();
     dequantize(&mut block, tokens, tokens.len(), size, dc_quant, ac_quant);
-    idct::fast::both_passes(&mut block, size + 2, kind, false);
+    idct::fast::both_passes(&mut block, size + 2, tx_type, false);
     let n0 = side(size);
     plane::add_back(samples, plane, x, y, &block, n0, n0, top);
 }
@@ -462,7 +463,7 @@ fn reconstruct_flat(
     top: u16,
 )
     requires { ⌜ SamplesOf plane (now samples) × (size ≤ 3) × (badQuantizer («dc_quant» .0) ≡ false) × (natAbs token ≤ codeable 12) × (natAbs (dequant size («dc_quant» .0) token) ≤ COEF_LIMIT) ⌝ }
-    ensures { λ _. ⌜ now (samples .exit) ≡ planeAfter plane top x y (side size) (λ i j. dcOnly (size + 2) (dequant size («dc_quant» .0) token)) (now (samples .entry)) ⌝ }
+    ensures { λ _. ⌜ now (samples .exit) ≡ planeAfter plane top x y (side (size + 2)) (λ i j. dcOnly (size + 2) (dequant size («dc_quant» .0) token)) (now (samples .entry)) ⌝ }
 {
     let mut block = zeros();
     block[0] = dc_quant.dequant(token, size);
@@ -471,11 +472,11 @@ fn reconstruct_flat(
 }
 
 // Whether the type is 0 and no token of the `count` but that at place 0 is live.
-fn only_first(tokens: &[i64], count: usize, kind: u8) -> bool
+fn only_first(tokens: &[i64], count: usize, tx_type: u8) -> bool
     requires { ⌜ (1 ≤ count) × (length (now tokens) ≡ count) ⌝ }
-    ensures { λ r. ⌜ r ≡ onlyFirst kind (now (tokens .entry)) ⌝ }
+    ensures { λ r. ⌜ r ≡ onlyFirst «tx_type» (now (tokens .entry)) ⌝ }
 {
-    if kind != 0 {
+    if tx_type != 0 {
         return false;
     }
     !any_live(tokens, 1, count - 1)
@@ -491,12 +492,12 @@ fn add_residual(
     tokens: &[i64],
     dc_quant: DcQuant,
     ac_quant: AcQuant,
-    kind: u8,
+    tx_type: u8,
     lossless: bool,
     top: u16,
 )
-    requires { ⌜ SamplesOf plane (now samples) × Accepted size «dc_quant» «ac_quant» kind lossless (now tokens) ⌝ }
-    ensures { λ _. ⌜ now (samples .exit) ≡ added plane top x y size «dc_quant» «ac_quant» kind lossless (now (tokens .entry)) (now (samples .entry)) ⌝ }
+    requires { ⌜ SamplesOf plane (now samples) × Accepted size «dc_quant» «ac_quant» «tx_type» lossless (now tokens) ⌝ }
+    ensures { λ _. ⌜ now (samples .exit) ≡ added plane top x y size «dc_quant» «ac_quant» «tx_type» lossless (now (tokens .entry)) (now (samples .entry)) ⌝ }
 {
     if size == 0 {
         reconstruct_4(
@@ -507,13 +508,13 @@ fn add_residual(
             tokens,
             dc_quant,
             ac_quant,
-            kind,
+            tx_type,
             lossless,
             top,
         );
         return;
     }
-    if only_first(tokens, tokens.len(), kind) {
+    if only_first(tokens, tokens.len(), tx_type) {
         reconstruct_flat(samples, plane, x, y, size, tokens[0], dc_quant, top);
         return;
     }
@@ -526,7 +527,7 @@ fn add_residual(
         tokens,
         dc_quant,
         ac_quant,
-        kind,
+        tx_type,
         top,
     );
 }
@@ -545,7 +546,7 @@ pub fn reconstruct_block(
     lossless: bool,
     bit_depth: u32,
 ) -> Answer
-    ensures { λ r. ⌜ Reconstructed (record { samples = now (samples .entry); plane = plane; x = x; y = y; size = «tx_sz»; tokens = now (tokens .entry); dc = «dc_quant»; ac = «ac_quant»; kind = «tx_type»; lossless = lossless; depth = «bit_depth» }) r (now (samples .exit)) ⌝ }
+    ensures { λ r. ⌜ Reconstructed (record { samples = now (samples .entry); plane = plane; x = x; y = y; size = «tx_sz»; tokens = now (tokens .entry); dc = «dc_quant»; ac = «ac_quant»; tx-type = «tx_type»; lossless = lossless; depth = «bit_depth» }) r (now (samples .exit)) ⌝ }
 {
     let shape = check(
         samples.len(),

@@ -137,7 +137,7 @@ struct Block {
     x: u64,
     y: u64,
     size: u32,
-    kind: u8,
+    tx_type: u8,
     lossless: bool,
     depth: u32,
     dc: i32,
@@ -151,8 +151,8 @@ fn read_block(line: &[u8], at: usize) -> Block {
     let x = lines::read_unsigned(line, at);
     let y = lines::read_unsigned(line, x.next);
     let size = lines::read_unsigned32(line, y.next);
-    let kind = lines::read_unsigned8(line, size.next);
-    let lossless = lines::read_flag(line, kind.next);
+    let tx_type = lines::read_unsigned8(line, size.next);
+    let lossless = lines::read_flag(line, tx_type.next);
     let depth = lines::read_unsigned32(line, lossless.next);
     let dc = lines::read_signed32(line, depth.next);
     let ac = lines::read_signed32(line, dc.next);
@@ -162,7 +162,7 @@ fn read_block(line: &[u8], at: usize) -> Block {
         x: x.value,
         y: y.value,
         size: size.value,
-        kind: kind.value,
+        tx_type: tx_type.value,
         lossless: lossless.value,
         depth: depth.value,
         dc: dc.value,
@@ -190,7 +190,7 @@ fn reconstruct(b: Block, tokens: &[i64], samples: &mut [u16], numbers: &mut [i64
         tokens,
         DcQuant(b.dc),
         AcQuant(b.ac),
-        b.kind,
+        b.tx_type,
         b.lossless,
         b.depth,
     );

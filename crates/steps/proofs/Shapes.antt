@@ -22,17 +22,17 @@ use Rattle.primitives.specs.Cosine.{Cos64, Sin64, cosAt}
 use Rattle.primitives.specs.Rotations.{turnX, turnY, put, applyB, applyH, applySB, applySH}
 use Rattle.steps.proofs.Places.{writes, writes2, every, Stays, steps-stay, steps-stay2}
 
-pub data Kind : Type 0 where
-  Z X R U : Kind
+pub data TxType : Type 0 where
+  Z X R U : TxType
 
-unfoldable pub Is : ℤ → Kind → ℤ → Type 0
+unfoldable pub Is : ℤ → TxType → ℤ → Type 0
 Is x Z z = z ≡ pos 0
 Is x X z = z ≡ x
 Is x R z = z ≡ turned x
 Is x U z = Unit
 
 -- number k of t is as number k of vs says, as far as vs goes
-pub record Are (x : ℤ) (vs : List Kind) (t : List ℤ) : Type 0 where
+pub record Are (x : ℤ) (vs : List TxType) (t : List ℤ) : Type 0 where
   pub long : length vs ≤ length t
   pub each : (k : ℕ) → Is x (getD vs k U) (getD t k (pos 0))
 
@@ -40,12 +40,12 @@ abbrev pub is16 : ℤ → Bool
 is16 (pos a) = eqb a 16
 is16 (negsuc a) = false
 
-abbrev pub at16 : Bool → Kind
+abbrev pub at16 : Bool → TxType
 at16 true = R
 at16 false = U
 
 -- both values of B of these two; of H; of a sign change
-abbrev pub pairB : Bool → Kind → Kind → Kind
+abbrev pub pairB : Bool → TxType → TxType → TxType
 pairB c Z Z = Z
 pairB c Z X = U
 pairB c Z R = U
@@ -57,29 +57,29 @@ pairB c X U = U
 pairB c R w = U
 pairB c U w = U
 
-abbrev pub pairH : Kind → Kind → Kind
+abbrev pub pairH : TxType → TxType → TxType
 pairH v Z = v
 pairH v X = U
 pairH v R = U
 pairH v U = U
 
-abbrev pub pairN : Kind → Kind
+abbrev pub pairN : TxType → TxType
 pairN Z = Z
 pairN X = U
 pairN R = U
 pairN U = U
 
 -- Z where all are Z
-abbrev pub join : Kind → Kind → Kind
+abbrev pub join : TxType → TxType → TxType
 join Z w = pairN w
 join X w = U
 join R w = U
 join U w = U
 
-abbrev pub joinFour : List Kind → Kind
+abbrev pub joinFour : List TxType → TxType
 joinFour vs = join (getD vs 0 U) (join (getD vs 1 U) (join (getD vs 2 U) (getD vs 3 U)))
 
-unfoldable pub shape : Step → List Kind → List Kind
+unfoldable pub shape : Step → List TxType → List TxType
 shape (Bf a b g f) vs = let v = pairB (is16 g) (getD vs a U) (getD vs b U) in set (set vs a v) b v
 shape (Hd a b false) vs = let v = pairH (getD vs a U) (getD vs b U) in set (set vs a v) b v
 shape (Hd a b true) vs = let v = pairH (getD vs b U) (getD vs a U) in set (set vs b v) a v
@@ -90,8 +90,8 @@ shape (Wh k) vs = let v = joinFour vs in set (set (set (set vs 0 v) 1 v) 2 v) 3 
 
 -- ---- over T and S
 pub record Shapes : Type 0 where
-  pub T : List Kind
-  pub S : List Kind
+  pub T : List TxType
+  pub S : List TxType
 
 pub record Are2 (x : ℤ) (v : Shapes) (u : Arrays) : Type 0 where
   pub ofT : Are x (v .T) (u .T)
@@ -103,7 +103,7 @@ shape2 (SB a b g f) v = let w = join (getD (v .T) a U) (getD (v .T) b U) in reco
 shape2 (SH a b) v = let w = join (getD (v .S) a U) (getD (v .S) b U) in record { T = set (set (v .T) a w) b w; S = v .S }
 
 -- S starts as zeros
-abbrev pub blank : List Kind → Shapes
+abbrev pub blank : List TxType → Shapes
 blank vs = record { T = vs; S = replicate 16 Z }
 
 -- ---- the rows that a driver meets: the first n numbers are 0; the first is x, and the others below n are 0
@@ -117,11 +117,11 @@ pub record Alone (n : ℕ) (x : ℤ) (t : List ℤ) : Type 0 where
   pub zeros : (k : ℕ) → 0 < k → k < n → getD t k (pos 0) ≡ pos 0
 
 -- ---- Shapes are sound: what they say after the steps holds of the values. From there, zeros stay zeros, and a row of x alone becomes one number everywhere.
-record Val (x : ℤ) (v : Kind) (z : ℤ) : Type 0 where
+record Val (x : ℤ) (v : TxType) (z : ℤ) : Type 0 where
   is : Is x v z
 
 module _ (x : ℤ) where
-  set-each : (vs : List Kind) (t : List ℤ) (i : ℕ) (v : Kind) (z : ℤ) → length vs ≤ length t → ((k : ℕ) → Is x (getD vs k U) (getD t k (pos 0))) → Is x v z
+  set-each : (vs : List TxType) (t : List ℤ) (i : ℕ) (v : TxType) (z : ℤ) → length vs ≤ length t → ((k : ℕ) → Is x (getD vs k U) (getD t k (pos 0))) → Is x v z
       → (k : ℕ) → Is x (getD (set vs i v) k U) (getD (set t i z) k (pos 0))
   unfolding Is
   set-each [] t i v z l h b k = tt
@@ -131,11 +131,11 @@ module _ (x : ℤ) where
   set-each (w ∷ vs) (y ∷ t) (suc i) v z l h b zero = h zero
   set-each (w ∷ vs) (y ∷ t) (suc i) v z l h b (suc k) = set-each vs t i v z (omega arith) (λ j. h (suc j)) b k
 
-  are-set : {vs : List Kind} {t : List ℤ} {v : Kind} {z : ℤ} (i : ℕ) → Are x vs t → Val x v z → Are x (set vs i v) (set t i z)
+  are-set : {vs : List TxType} {t : List ℤ} {v : TxType} {z : ℤ} (i : ℕ) → Are x vs t → Val x v z → Are x (set vs i v) (set t i z)
   are-set {vs} {t} {v} {z} i h b =
       record { long = omega (arith, length-set vs i v, length-set t i z, h .long); each = set-each vs t i v z (h .long) (h .each) (b .is) }
 
-  fill-are : (f : ℕ → ℕ) (vs : List Kind) (t : List ℤ) → Are x vs t → (l : ℕ) → Are x (fill l (λ i. getD vs (f i) U) vs) (fill l (λ i. getD t (f i) (pos 0)) t)
+  fill-are : (f : ℕ → ℕ) (vs : List TxType) (t : List ℤ) → Are x vs t → (l : ℕ) → Are x (fill l (λ i. getD vs (f i) U) vs) (fill l (λ i. getD t (f i) (pos 0)) t)
   unfolding fill
   fill-are f vs t h zero = h
   fill-are f vs t h (suc l) = are-set l (fill-are f vs t h l) (record { is = h .each (f l) })
@@ -173,7 +173,7 @@ module _ (x : ℤ) where
   both16 g true e = rw (sixteen g e) (record { is = ap (λ z. Round2 z 14) one-x }, record { is = ap (λ z. Round2 z 14) one-y })
   both16 g false e = (any, any)
 
-  turn-is : (g : ℤ) (v w : Kind) (p q : ℤ) → Is x v p → Is x w q
+  turn-is : (g : ℤ) (v w : TxType) (p q : ℤ) → Is x v p → Is x w q
       → Val x (pairB (is16 g) v w) (Round2 (turnX p q g) 14) × Val x (pairB (is16 g) v w) (Round2 (turnY p q g) 14)
   unfolding Is
   turn-is g Z Z p q a b = rw (a, b) (record { is = round-zero (zero-x g) }, record { is = round-zero (zero-y g) })
@@ -187,14 +187,14 @@ module _ (x : ℤ) where
   turn-is g R w p q a b = (any, any)
   turn-is g U w p q a b = (any, any)
 
-  had-is : (v w : Kind) (p q : ℤ) → Is x v p → Is x w q → Val x (pairH v w) (p +ℤ q) × Val x (pairH v w) (p -ℤ q)
+  had-is : (v w : TxType) (p q : ℤ) → Is x v p → Is x w q → Val x (pairH v w) (p +ℤ q) × Val x (pairH v w) (p -ℤ q)
   unfolding Is
   had-is v Z p q a b = rw (b, +ℤ-idr p) (record { is = a }, record { is = a })
   had-is v X p q a b = (any, any)
   had-is v R p q a b = (any, any)
   had-is v U p q a b = (any, any)
 
-  neg-is : (v : Kind) (p : ℤ) → Is x v p → Val x (pairN v) (negℤ p)
+  neg-is : (v : TxType) (p : ℤ) → Is x v p → Val x (pairN v) (negℤ p)
   unfolding Is
   neg-is Z p a = record { is = rw a }
   neg-is X p a = any
@@ -202,7 +202,7 @@ module _ (x : ℤ) where
   neg-is U p a = any
 
   -- what is 0 where both are, where all four are
-  join-is : (v w : Kind) {p q z : ℤ} → (p ≡ pos 0 → q ≡ pos 0 → z ≡ pos 0) → Is x v p → Is x w q → Val x (join v w) z
+  join-is : (v w : TxType) {p q z : ℤ} → (p ≡ pos 0 → q ≡ pos 0 → z ≡ pos 0) → Is x v p → Is x w q → Val x (join v w) z
   unfolding Is
   join-is Z Z f a b = record { is = f a b }
   join-is Z X f a b = any
@@ -212,7 +212,7 @@ module _ (x : ℤ) where
   join-is R w f a b = any
   join-is U w f a b = any
 
-  four-is : (p q r s : Kind) {a b c d z : ℤ} → (a ≡ pos 0 → b ≡ pos 0 → c ≡ pos 0 → d ≡ pos 0 → z ≡ pos 0) → Is x p a → Is x q b → Is x r c → Is x s d
+  four-is : (p q r s : TxType) {a b c d z : ℤ} → (a ≡ pos 0 → b ≡ pos 0 → c ≡ pos 0 → d ≡ pos 0 → z ≡ pos 0) → Is x p a → Is x q b → Is x r c → Is x s d
       → Val x (join p (join q (join r s))) z
   unfolding Is
   four-is Z Z Z Z i e f g h = record { is = i e f g h }
@@ -229,11 +229,11 @@ module _ (x : ℤ) where
   four-is R q r s i e f g h = any
   four-is U q r s i e f g h = any
 
-  of-four : {vs : List Kind} {t : List ℤ} {z : ℤ} → Are x vs t
+  of-four : {vs : List TxType} {t : List ℤ} {z : ℤ} → Are x vs t
       → (getD t 0 (pos 0) ≡ pos 0 → getD t 1 (pos 0) ≡ pos 0 → getD t 2 (pos 0) ≡ pos 0 → getD t 3 (pos 0) ≡ pos 0 → z ≡ pos 0) → Val x (joinFour vs) z
   of-four {vs} {t} h i = four-is (getD vs 0 U) (getD vs 1 U) (getD vs 2 U) (getD vs 3 U) i (h .each 0) (h .each 1) (h .each 2) (h .each 3)
 
-  shape-a4 : (vs : List Kind) (t : List ℤ) → Are x vs t → Are x (shape A4 vs) (step A4 t)
+  shape-a4 : (vs : List TxType) (t : List ℤ) → Are x vs t → Are x (shape A4 vs) (step A4 t)
   unfolding shape step adst4 Round2
   shape-a4 vs t h =
       are-set 3
@@ -243,14 +243,14 @@ module _ (x : ℤ) where
   shr-zero : (k : ℕ) {z : ℤ} → z ≡ pos 0 → shrZ z (2 ^ k) ≡ pos 0
   shr-zero k e = rw e (ap pos (NatL.zero-div (2 ^ k)))
 
-  shape-wh : (k : ℕ) (vs : List Kind) (t : List ℤ) → Are x vs t → Are x (shape (Wh k) vs) (step (Wh k) t)
+  shape-wh : (k : ℕ) (vs : List TxType) (t : List ℤ) → Are x vs t → Are x (shape (Wh k) vs) (step (Wh k) t)
   unfolding shape step wht4 halfway
   shape-wh k vs t h =
       are-set 3
       (are-set 2 (are-set 1 (are-set 0 h (of-four h (λ a b c d. rw (shr-zero k a, shr-zero k b, shr-zero k c, shr-zero k d)))) (of-four h (λ a b c d. rw (shr-zero k a, shr-zero k b, shr-zero k c, shr-zero k d)))) (of-four h (λ a b c d. rw (shr-zero k a, shr-zero k b, shr-zero k c, shr-zero k d))))
       (of-four h (λ a b c d. rw (shr-zero k a, shr-zero k b, shr-zero k c, shr-zero k d)))
 
-  pub shape-sound : (s : Step) (vs : List Kind) (t : List ℤ) → Are x vs t → Are x (shape s vs) (step s t)
+  pub shape-sound : (s : Step) (vs : List TxType) (t : List ℤ) → Are x vs t → Are x (shape s vs) (step s t)
   unfolding shape step applyB applyH put move
   shape-sound (Bf a b g false) vs t h =
       let r = turn-is g (getD vs a U) (getD vs b U) (getD t a (pos 0)) (getD t b (pos 0)) (h .each a) (h .each b) in are-set b (are-set a h (r .0)) (r .1)
@@ -266,14 +266,14 @@ module _ (x : ℤ) where
   shape-sound (Wh k) vs t h = shape-wh k vs t h
 
   -- THE theorem of shapes
-  pub shapes-sound : (ss : List Step) (vs : List Kind) (t : List ℤ) → Are x vs t → Are x (run shape ss vs) (run step ss t)
+  pub shapes-sound : (ss : List Step) (vs : List TxType) (t : List ℤ) → Are x vs t → Are x (run shape ss vs) (run step ss t)
   shapes-sound = keeps step shape (Are x) shape-sound
 
   -- ---- over T and S
-  sb-is : (g : ℤ) (v w : Kind) (p q : ℤ) → Is x v p → Is x w q → Val x (join v w) (turnX p q g) × Val x (join v w) (turnY p q g)
+  sb-is : (g : ℤ) (v w : TxType) (p q : ℤ) → Is x v p → Is x w q → Val x (join v w) (turnX p q g) × Val x (join v w) (turnY p q g)
   sb-is g v w p q a b = (join-is v w (λ e f. rw (e, f) (zero-x g)) a b, join-is v w (λ e f. rw (e, f) (zero-y g)) a b)
 
-  sh-is : (v w : Kind) (p q : ℤ) → Is x v p → Is x w q → Val x (join v w) (Round2 (p +ℤ q) 14) × Val x (join v w) (Round2 (p -ℤ q) 14)
+  sh-is : (v w : TxType) (p q : ℤ) → Is x v p → Is x w q → Val x (join v w) (Round2 (p +ℤ q) 14) × Val x (join v w) (Round2 (p -ℤ q) 14)
   sh-is v w p q a b = (join-is v w (λ e f. round-zero (rw (e, f))) a b, join-is v w (λ e f. round-zero (rw (e, f))) a b)
 
   pub shape-sound2 : (s : Step2) (v : Shapes) (u : Arrays) → Are2 x v u → Are2 x (shape2 s v) (step2 s u)
@@ -324,7 +324,7 @@ zeros-keep n {t} {u} z s a = ext-getD (pos 0) u t (s .long) (λ k l. go k (decLt
 
 pub zeros-stay : (n : ℕ) (ss : List Step) {t : List ℤ} → run shape ss (replicate n Z) ≡ replicate n Z → T (every (writes n) ss) → Zeros n t → run step ss t ≡ t
 zeros-stay n ss {t} e w z =
-    zeros-keep n z (steps-stay n ss t w) (subst (λ (vs : List Kind). Are (pos 0) vs (run step ss t)) e (shapes-sound (pos 0) ss (replicate n Z) t (are-zeros (pos 0) z)))
+    zeros-keep n z (steps-stay n ss t w) (subst (λ (vs : List TxType). Are (pos 0) vs (run step ss t)) e (shapes-sound (pos 0) ss (replicate n Z) t (are-zeros (pos 0) z)))
 
 pub zeros-stay2 : (n : ℕ) (ss : List Step2) {t : List ℤ} → run shape2 ss (blank (replicate n Z)) .T ≡ replicate n Z → T (every (writes2 n) ss) → Zeros n t
     → run step2 ss (fresh t) .T ≡ t
@@ -333,12 +333,12 @@ zeros-stay2 n ss {t} e w z =
     let u = fresh t in
     let s : Are (pos 0) (replicate 16 Z) (replicate 16 (pos 0)) = are-zeros (pos 0) (record { long = omega arith; zeros = λ k h. getD-replicate 16 k (pos 0) (pos 0) h }) in
     let r = shapes-sound2 (pos 0) ss (blank (replicate n Z)) u (record { ofT = are-zeros (pos 0) z; ofS = s }) in
-    zeros-keep n z (steps-stay2 n ss u w) (subst (λ (vs : List Kind). Are (pos 0) vs (run step2 ss u .T)) e (r .ofT))
+    zeros-keep n z (steps-stay2 n ss u w) (subst (λ (vs : List TxType). Are (pos 0) vs (run step2 ss u .T)) e (r .ofT))
 
 -- x alone becomes x rotated by 16, everywhere
 pub alone-turned : (n : ℕ) (ss : List Step) {x : ℤ} {t : List ℤ} → run shape ss (X ∷ replicate n Z) ≡ replicate (suc n) R → Alone (suc n) x t
     → (k : ℕ) → k < suc n → getD (run step ss t) k (pos 0) ≡ turned x
 unfolding Is
 alone-turned n ss {x} {t} e a k h =
-    let r = subst (λ (vs : List Kind). Are x vs (run step ss t)) e (shapes-sound x ss (X ∷ replicate n Z) t (are-alone a)) in
+    let r = subst (λ (vs : List TxType). Are x vs (run step ss t)) e (shapes-sound x ss (X ∷ replicate n Z) t (are-alone a)) in
     rw (getD-replicate (suc n) k R U h) at (r .each k)

@@ -3,14 +3,14 @@ use Prim.Native.Nat.{_≤_}
 use native.Mathlib.Omega.{arith}
 use Rattle.answers.specs.Answers.{number}
 use Rattle.answers.specs.declared.Answer.{Answer}
-use Rattle.answers.specs.declared.Answer.the-variants.{Done, Depth, Size, LosslessSize, Kind, Quantizer, Length, Plane, Token, Coefficient, Mark, Version, CutShort, TooLarge, LosslessByte}
+use Rattle.answers.specs.declared.Answer.the-variants.{Done, Depth, Size, LosslessSize, TxType, Quantizer, Length, Plane, Token, Coefficient, Mark, Version, CutShort, TooLarge, LosslessByte}
 
 pub number-most : (a : Answer) → number a ≤ 14
 number-most Done = omega arith
 number-most Depth = omega arith
 number-most Size = omega arith
 number-most LosslessSize = omega arith
-number-most Kind = omega arith
+number-most TxType = omega arith
 number-most Quantizer = omega arith
 number-most Length = omega arith
 number-most Plane = omega arith

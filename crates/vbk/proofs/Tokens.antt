@@ -62,7 +62,7 @@ module _ (s : List ℕ) (at : ℕ) (samples : List ℕ) (head : Head) (fields : 
         tokens = tokens;
         dc = record { 0 = dc };
         ac = record { 0 = ac };
-        kind = head .kind;
+        tx-type = head .«tx_type»;
         lossless = eqb (head .lossless) 1;
         depth = fields .depth;
       }

@@ -6,7 +6,7 @@ use Rattle.vbk.specs.Replay.{Reconstruction, Rebuilt, rebuildAt}
 
 -- the answer and the samples of `reconstruct_block`, for the numbers of a record
 unfoldable pub reconstruction : Reconstruction
-reconstruction plane width height x y size tokens dc ac kind lossless depth =
+reconstruction plane width height x y size tokens dc ac tx-type lossless depth =
     let u : Input =
     record {
       samples = plane;
@@ -17,7 +17,7 @@ reconstruction plane width height x y size tokens dc ac kind lossless depth =
       tokens = tokens;
       dc = record { 0 = dc };
       ac = record { 0 = ac };
-      kind = kind;
+      tx-type = tx-type;
       lossless = lossless;
       depth = depth;
     }

@@ -18,7 +18,7 @@ pub record Rebuilt : Type 0 where
 
 -- what a record does to a plane
 abbrev pub Reconstruction : Type 0
-Reconstruction = (plane : List ℕ) (width height x y size : ℕ) (tokens : List ℤ) (dc ac : ℤ) (kind : ℕ) (lossless : Bool) (depth : ℕ) → Rebuilt
+Reconstruction = (plane : List ℕ) (width height x y size : ℕ) (tokens : List ℤ) (dc ac : ℤ) (tx-type : ℕ) (lossless : Bool) (depth : ℕ) → Rebuilt
 
 -- every record's answer in order, the plane afterwards and the touched count
 pub record After : Type 0 where
@@ -57,7 +57,7 @@ module _ (R : Reconstruction) (s : List ℕ) where
   -- reconstruction with the numbers of the record at a place
   unfoldable pub rebuildAt : ℕ → List ℕ → Rebuilt
   rebuildAt at plane =
-      R plane (widthOf s) (heightOf s) (headAt s at .x) (headAt s at .y) (sizeAt s at) (tokensAt s at) (pos (headAt s at .dc)) (pos (headAt s at .ac)) (headAt s at .kind) (eqb (losslessAt s at) 1) (depthOf s)
+      R plane (widthOf s) (heightOf s) (headAt s at .x) (headAt s at .y) (sizeAt s at) (tokensAt s at) (pos (headAt s at .dc)) (pos (headAt s at .ac)) (headAt s at .«tx_type») (eqb (losslessAt s at) 1) (depthOf s)
 
   -- a whole record: a lossless byte above 1 is 14; then reconstruction's own answer
   unfoldable pub rebuiltAt : ℕ → List ℕ → Rebuilt

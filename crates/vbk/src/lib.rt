@@ -81,7 +81,7 @@ fn rebuild(file: &[u8], at: usize, head: Head, fields: Fields, samples: &mut [u1
         &tokens[..n],
         DcQuant(quantizer(head.dc)),
         AcQuant(quantizer(head.ac)),
-        head.kind,
+        head.tx_type,
         head.lossless == 1,
         fields.depth as u32,
     )

@@ -14,10 +14,10 @@ use Rattle.vbk_read.specs.declared.Head.{Head}
 use Rattle.vbk_read.specs.declared.Record.{Record}
 
 -- seven numbers read one after another
-pub head : (s : List ℕ) (at x y size kind lossless dc ac n1 n2 n3 n4 n5 n6 n7 : ℕ)
-    → Took (le2 s at) (at + 2) x n1 → Took (le2 s n1) (n1 + 2) y n2 → Took (le1 s n2) (n2 + 1) size n3 → Took (le1 s n3) (n3 + 1) kind n4 → Took (le1 s n4) (n4 + 1) lossless n5 → Took (le2 s n5) (n5 + 2) dc n6 → Took (le2 s n6) (n6 + 2) ac n7
-    → _≡_ {A = Head} (record { x = x; y = y; size = size; kind = kind; lossless = lossless; dc = dc; ac = ac; next = record { at = n7 } }) (headAt s at)
-head s at x y size kind lossless dc ac n1 n2 n3 n4 n5 n6 n7 a b c d e f g =
+pub head : (s : List ℕ) (at x y size tx-type lossless dc ac n1 n2 n3 n4 n5 n6 n7 : ℕ)
+    → Took (le2 s at) (at + 2) x n1 → Took (le2 s n1) (n1 + 2) y n2 → Took (le1 s n2) (n2 + 1) size n3 → Took (le1 s n3) (n3 + 1) tx-type n4 → Took (le1 s n4) (n4 + 1) lossless n5 → Took (le2 s n5) (n5 + 2) dc n6 → Took (le2 s n6) (n6 + 2) ac n7
+    → _≡_ {A = Head} (record { x = x; y = y; size = size; «tx_type» = tx-type; lossless = lossless; dc = dc; ac = ac; next = record { at = n7 } }) (headAt s at)
+head s at x y size tx-type lossless dc ac n1 n2 n3 n4 n5 n6 n7 a b c d e f g =
     let e1 : n1 ≡ at + 2 = omega (arith, a .next-is) in
     let e2 : n2 ≡ at + 4 = omega (arith, b .next-is) in
     let e3 : n3 ≡ at + 5 = omega (arith, c .next-is) in

@@ -33,7 +33,7 @@ headAt s at =
       x = le2 s at;
       y = le2 s (at + 2);
       size = sizeAt s at;
-      kind = le1 s (at + 5);
+      «tx_type» = le1 s (at + 5);
       lossless = losslessAt s at;
       dc = le2 s (at + 7);
       ac = le2 s (at + 9);
@@ -42,7 +42,7 @@ headAt s at =
 
 -- zeros, where the reading ends
 abbrev pub noHead : Head
-noHead = record { x = 0; y = 0; size = 0; kind = 0; lossless = 0; dc = 0; ac = 0; next = record { at = 0 } }
+noHead = record { x = 0; y = 0; size = 0; «tx_type» = 0; lossless = 0; dc = 0; ac = 0; next = record { at = 0 } }
 
 -- n0², the number of tokens of a size number
 abbrev pub tokenCount : ℕ → ℕ

@@ -58,7 +58,7 @@ pub struct Head {
     pub x: u16,
     pub y: u16,
     pub size: u8,
-    pub kind: u8,
+    pub tx_type: u8,
     pub lossless: u8,
     pub dc: u16,
     pub ac: u16,
@@ -197,8 +197,8 @@ impl Cursor {
         let x = self.read_u16(s);
         let y = x.next.read_u16(s);
         let size = y.next.read_u8(s);
-        let kind = size.next.read_u8(s);
-        let lossless = kind.next.read_u8(s);
+        let tx_type = size.next.read_u8(s);
+        let lossless = tx_type.next.read_u8(s);
         let dc = lossless.next.read_u16(s);
         let ac = dc.next.read_u16(s);
         let next = ac.next;
@@ -206,7 +206,7 @@ impl Cursor {
             x: x.value,
             y: y.value,
             size: size.value,
-            kind: kind.value,
+            tx_type: tx_type.value,
             lossless: lossless.value,
             dc: dc.value,
             ac: ac.value,
@@ -341,7 +341,7 @@ fn ending(answer: Answer) -> Record
             x: 0,
             y: 0,
             size: 0,
-            kind: 0,
+            tx_type: 0,
             lossless: 0,
             dc: 0,
             ac: 0,

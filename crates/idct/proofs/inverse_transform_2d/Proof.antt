@@ -8,10 +8,10 @@ use Rattle.idct.proofs.inverse_transform_2d.Tie as tie
 
 -- what the call is given
 abbrev given : tie.Start → Input
-given s = record { block = s .args .block .now; n = s .args .n; kind = s .args .tx-type; lossless = s .args .lossless }
+given s = record { block = s .args .block .now; n = s .args .n; tx-type = s .args .tx-type; lossless = s .args .lossless }
 
 -- no refusal before the numbers
-passed : (c : tie.Else2) → let u = given (c .before .before .before .before) in shapeOf (length (u .block)) (u .n) (u .kind) (u .lossless) ≡ 0
+passed : (c : tie.Else2) → let u = given (c .before .before .before .before) in shapeOf (length (u .block)) (u .n) (u .tx-type) (u .lossless) ≡ 0
 passed c = sym (c .before .code .ensures ∙ c .before .before .shape .ensures) ∙ c .if2 .left
 
 returns : tie.Need-returns
@@ -24,13 +24,13 @@ tried-large-requires : tie.Need-tried-large-requires
 tried-large-requires c κs =
     let e = c .before in
     let u = given (e .before .before .before .before) in
-    large-fine (u .block) (u .n) (u .kind) (u .lossless) (passed e) (e .before .before .before .if1 .left)
+    large-fine (u .block) (u .n) (u .tx-type) (u .lossless) (passed e) (e .before .before .before .if1 .left)
 
 returns-3 : tie.Need-returns-3
 returns-3 c =
     let e = c .before .before .before .before in
     let u = given (e .before .before .before .before) in
-    driven-made u (passed e) (c .if3 .taken) (as-lossy (u .block) (u .n) (u .kind) (u .lossless) (passed e) (e .before .before .before .if1 .left) (c .before .before .tried-large .ensures))
+    driven-made u (passed e) (c .if3 .taken) (as-lossy (u .block) (u .n) (u .tx-type) (u .lossless) (passed e) (e .before .before .before .if1 .left) (c .before .before .tried-large .ensures))
 
 returns-4 : tie.Need-returns-4
 returns-4 c =
@@ -38,7 +38,7 @@ returns-4 c =
     let t = w .before .before in
     let e = t .before .before in
     let u = given (e .before .before .before .before) in
-    driven-left u (w .if3 .left) (as-lossy (u .block) (u .n) (u .kind) (u .lossless) (passed e) (e .before .before .before .if1 .left) (t .tried-large .ensures))
+    driven-left u (w .if3 .left) (as-lossy (u .block) (u .n) (u .tx-type) (u .lossless) (passed e) (e .before .before .before .if1 .left) (t .tried-large .ensures))
     (c .before .inverse-transform-2d-reference .ensures)
 
 pub inverse-transform-2d-spec : {M : Type 1} → statement M

@@ -15,21 +15,22 @@ use Rattle.blocks.specs.Inverse.{apply, rowPass, columnPass, rounding, inverse2
 use Rattle.blocks.proofs.Passes.{row-valid}
 use Rattle.blocks.proofs.Blocks.{rows-length}
 use Rattle.blocks.proofs.Inverse.{rows-within}
-use Rattle.idct.specs.Driver.{Input, area, shapeOf}
+use Rattle.answers.specs.Sizes.{area}
+use Rattle.idct.specs.Driver.{Input, shapeOf}
 use Rattle.idct.proofs.Answers.{possible, refused, driven, over, under, in-range}
 use Rattle.idct.proofs.inverse_transform_2d_reference.Statement.{statement}
 use Rattle.idct.proofs.inverse_transform_2d_reference.Tie as tie
 
 -- what the call is given
 abbrev given : tie.Start → Input
-given s = record { block = s .args .block .now; n = s .args .n; kind = s .args .tx-type; lossless = s .args .lossless }
+given s = record { block = s .args .block .now; n = s .args .n; tx-type = s .args .tx-type; lossless = s .args .lossless }
 
 -- no refusal before the numbers
-passed : (c : tie.Else1) → let u = given (c .before .before .before) in shapeOf (length (u .block)) (u .n) (u .kind) (u .lossless) ≡ 0
+passed : (c : tie.Else1) → let u = given (c .before .before .before) in shapeOf (length (u .block)) (u .n) (u .tx-type) (u .lossless) ≡ 0
 passed c = sym (c .before .code .ensures ∙ c .before .before .shape .ensures) ∙ c .if1 .left
 
-fine : (c : tie.Else1) → let u = given (c .before .before .before) in Possible (u .n) (u .kind) (u .lossless) × (area (u .n) ≤ length (u .block))
-fine c = let u = given (c .before .before .before) in possible (length (u .block)) (u .n) (u .kind) (u .lossless) (passed c)
+fine : (c : tie.Else1) → let u = given (c .before .before .before) in Possible (u .n) (u .tx-type) (u .lossless) × (area (u .n) ≤ length (u .block))
+fine c = let u = given (c .before .before .before) in possible (length (u .block)) (u .n) (u .tx-type) (u .lossless) (passed c)
 
 -- the scan, over the block
 scan : (c : tie.After-any-beyond) → let u = given (c .before .before .before .before .before .before) in c .any-beyond .result ≡ anyBeyond COEF_LIMIT (area (u .n)) (u .block)
@@ -71,8 +72,8 @@ columns-requires c κs =
     let room = fine e .1 in
     rw (c .before .before .rows .ensures) (
       q,
-      rw (rows-length (apply (rowPass (u .kind) (u .lossless)) (u .n)) (2 ^ u .n) (u .block)) room,
-      rows-within (u .n) (q .least) (q .most) (rowPass (u .kind) (u .lossless)) (u .block) room (row-valid (u .n) (u .kind) (u .lossless) q) (in-range (area (u .n)) (u .block) (within w)),
+      rw (rows-length (apply (rowPass (u .tx-type) (u .lossless)) (u .n)) (2 ^ u .n) (u .block)) room,
+      rows-within (u .n) (q .least) (q .most) (rowPass (u .tx-type) (u .lossless)) (u .block) room (row-valid (u .n) (u .tx-type) (u .lossless) q) (in-range (area (u .n)) (u .block) (within w)),
     )
 
 returns-3 : tie.Need-returns-3
@@ -81,7 +82,7 @@ returns-3 c =
     let w = c .before .before .before .before .before .before in
     let e = w .before .before .before .before in
     let u = given (e .before .before .before) in
-    let all : List ℤ → List ℤ = columns (apply (columnPass (u .kind) (u .lossless)) (u .n)) (rounding (u .n) (u .lossless)) (2 ^ u .n) in
+    let all : List ℤ → List ℤ = columns (apply (columnPass (u .tx-type) (u .lossless)) (u .n)) (rounding (u .n) (u .lossless)) (2 ^ u .n) in
     driven u Done _ (passed e) (under u _ (within w) (c .before .columns .ensures ∙ ap all (c .before .before .before .before .rows .ensures)))
 
 pub inverse-transform-2d-reference-spec : {M : Type 1} → statement M

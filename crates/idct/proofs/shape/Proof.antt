@@ -4,7 +4,7 @@ use Prim.Native.Nat.{_-_}
 use native.Mathlib.Nat.{mul-le-mul}
 use native.Mathlib.Omega.{arith}
 use borrow.Author.Tests.{lt-ltb, le-ltb}
-use Rattle.answers.specs.Bad.{badLossless, badKind}
+use Rattle.answers.specs.Bad.{badLossless, badTxType}
 use Rattle.idct.specs.Driver.{badSide, shapeOf}
 use Rattle.idct.proofs.Answers.{side-range}
 use borrow.Author.Needs.{needs}
@@ -18,8 +18,8 @@ no1 c = sym (c .before .bad-side .ensures) ∙ c .if1 .left
 no2 : (c : tie.Else2) → let a = c .before .before .before .before .args in badLossless (a .lossless) (a .n - 2) ≡ false
 no2 c = sym (c .before .bad-lossless .ensures) ∙ c .if2 .left
 
-no3 : (c : tie.Else3) → let a = c .before .before .before .before .before .before .args in badKind (a .lossless) (a .n - 2) (a .tx-type) ≡ false
-no3 c = sym (c .before .bad-kind .ensures) ∙ c .if3 .left
+no3 : (c : tie.Else3) → let a = c .before .before .before .before .before .before .args in badTxType (a .lossless) (a .n - 2) (a .tx-type) ≡ false
+no3 c = sym (c .before .bad-tx-type .ensures) ∙ c .if3 .left
 
 returns : tie.Need-returns
 unfolding shapeOf
@@ -33,7 +33,7 @@ returns-3 : tie.Need-returns-3
 unfolding shapeOf
 returns-3 c =
     let e2 = c .before .before in
-    rw (no1 (e2 .before .before), no2 e2, sym (c .before .bad-kind .ensures) ∙ c .if3 .taken)
+    rw (no1 (e2 .before .before), no2 e2, sym (c .before .bad-tx-type .ensures) ∙ c .if3 .taken)
 
 returns-4 : tie.Need-returns-4
 unfolding shapeOf

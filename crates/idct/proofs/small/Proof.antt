@@ -8,10 +8,10 @@ use Rattle.idct.proofs.small.Tie as tie
 
 -- what the call is given
 abbrev given : tie.Start → Input
-given s = record { block = s .args .block .now; n = 2; kind = s .args .tx-type; lossless = s .args .lossless }
+given s = record { block = s .args .block .now; n = 2; tx-type = s .args .tx-type; lossless = s .args .lossless }
 
 -- no refusal before the numbers
-passed : (c : tie.Else1) → let u = given (c .before .before .before) in shapeOf (length (u .block)) (u .n) (u .kind) (u .lossless) ≡ 0
+passed : (c : tie.Else1) → let u = given (c .before .before .before) in shapeOf (length (u .block)) (u .n) (u .tx-type) (u .lossless) ≡ 0
 passed c = sym (c .before .code .ensures ∙ c .before .before .shape .ensures) ∙ c .if1 .left
 
 returns : tie.Need-returns
@@ -20,7 +20,7 @@ returns c = refused (given (c .before .before .before)) _ (c .before .before .sh
 tried-small-requires : tie.Need-tried-small-requires
 tried-small-requires c κs =
     let u = given (c .before .before .before .before) in
-    possible (length (u .block)) (u .n) (u .kind) (u .lossless) (passed (c .before)) .1
+    possible (length (u .block)) (u .n) (u .tx-type) (u .lossless) (passed (c .before)) .1
 
 returns-2 : tie.Need-returns-2
 returns-2 c = let e = c .before .before .before .before in driven-made (given (e .before .before .before)) (passed e) (c .if2 .taken) (c .before .before .tried-small .ensures)

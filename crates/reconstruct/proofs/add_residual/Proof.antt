@@ -8,7 +8,8 @@ use lib.ListN.{length, getD}
 use mir.Syntax.{w64}
 use mir.ValLaws.{toZ-ofZ}
 use borrow.Author.Needs.{needs}
-use Rattle.reconstruct.specs.Reconstruct.{area, Accepted}
+use Rattle.answers.specs.Sizes.{area}
+use Rattle.reconstruct.specs.Reconstruct.{Accepted}
 use Rattle.reconstruct.proofs.Sizes.{dc-fine}
 use Rattle.reconstruct.proofs.Residual.{size-most, some-token, not-lossless, lossy-taken, lossy-added, flat-added, first-within}
 use Rattle.reconstruct.proofs.add_residual.Statement.{statement}
@@ -20,7 +21,7 @@ some s = rw (s .pre .1 .all) (some-token (s .args .size))
 
 -- above 4 by 4 nothing is lossless
 lossy : (c : tie.Else1) → c .before .before .args .lossless ≡ false
-lossy c = let s = c .before .before in not-lossless (s .args .size) (s .args .kind) (s .args .lossless) (s .pre .1 .possible) (c .if1 .left)
+lossy c = let s = c .before .before in not-lossless (s .args .size) (s .args .tx-type) (s .args .lossless) (s .pre .1 .possible) (c .if1 .left)
 
 reconstruct-flat-requires : tie.Need-reconstruct-flat-requires
 reconstruct-flat-requires c κs =
@@ -29,10 +30,10 @@ reconstruct-flat-requires c κs =
     let t = s .pre .1 in
     rw (toZ-ofZ w64 (getD (a .tokens .now) 0 (pos 0)) (record { sfits = c .reconstruct-flat-arg2 .given })) (
       s .pre .0,
-      size-most (a .size) (a .dc-quant) (a .ac-quant) (a .kind) (a .lossless) (a .tokens .now) t,
+      size-most (a .size) (a .dc-quant) (a .ac-quant) (a .tx-type) (a .lossless) (a .tokens .now) t,
       dc-fine (a .dc-quant) (a .ac-quant) (t .quantizers),
       t .codeables 0 (some s),
-      first-within (a .size) (a .dc-quant) (a .ac-quant) (a .kind) (a .lossless) (a .tokens .now) t,
+      first-within (a .size) (a .dc-quant) (a .ac-quant) (a .tx-type) (a .lossless) (a .tokens .now) t,
     )
 
 returns-2 : tie.Need-returns-2
@@ -42,21 +43,21 @@ returns-2 c =
     let r = c .before .before .before in
     let e = toZ-ofZ w64 (getD (a .tokens .now) 0 (pos 0)) (record { sfits = r .reconstruct-flat-arg2 .given }) in
     rw e at (c .before .before .reconstruct-flat .ensures)
-    ∙ flat-added (a .plane) (a .top) (a .x) (a .y) (a .size) (a .dc-quant) (a .ac-quant) (a .kind) (a .lossless) (a .tokens .now) (a .samples .now) (s .pre .0) (s .pre .1)
+    ∙ flat-added (a .plane) (a .top) (a .x) (a .y) (a .size) (a .dc-quant) (a .ac-quant) (a .tx-type) (a .lossless) (a .tokens .now) (a .samples .now) (s .pre .0) (s .pre .1)
     (lossy (r .before .before .before .before)) (sym (r .before .before .before .only-first .ensures) ∙ r .before .before .if2 .taken)
 
 reconstruct-n-requires : tie.Need-reconstruct-n-requires
 reconstruct-n-requires c κs =
     let s = c .before .before .before .before .before in
     let a = s .args in
-    (s .pre .0, lossy-taken (a .size) (a .dc-quant) (a .ac-quant) (a .kind) (a .lossless) (a .tokens .now) (lossy (c .before .before .before)) (s .pre .1))
+    (s .pre .0, lossy-taken (a .size) (a .dc-quant) (a .ac-quant) (a .tx-type) (a .lossless) (a .tokens .now) (lossy (c .before .before .before)) (s .pre .1))
 
 returns-3 : tie.Need-returns-3
 returns-3 c =
     let s = c .before .before .before .before .before .before .before .before in
     let a = s .args in
     c .before .before .reconstruct-n .ensures
-    ∙ lossy-added (a .plane) (a .top) (a .x) (a .y) (a .size) (a .dc-quant) (a .ac-quant) (a .kind) (a .lossless) (a .tokens .now) (a .samples .now) (lossy (c .before .before .before .before .before .before))
+    ∙ lossy-added (a .plane) (a .top) (a .x) (a .y) (a .size) (a .dc-quant) (a .ac-quant) (a .tx-type) (a .lossless) (a .tokens .now) (a .samples .now) (lossy (c .before .before .before .before .before .before))
 
 pub add-residual-spec : {M : Type 1} → statement M
 add-residual-spec =

@@ -1,14 +1,15 @@
 -- `reconstruct::check` meets its contract.
 use mathlib.Core.Path.{_≡_, sym, ap, _∙_}
 use mathlib.Core.Bool.{true, false, not}
-use Prim.Native.Nat.{_*_, _≤_}
+use Prim.Native.Nat.{_+_, _*_, _≤_}
 use native.Mathlib.Nat.{mul-le-mul}
 use native.Mathlib.Omega.{arith}
 use borrow.Author.Needs.{needs}
 use borrow.Author.Tests.{eq-eqb, ne-eqb, ltb-false}
 use lib.Dec.{eqb}
-use Rattle.answers.specs.Bad.{badDepth, badSize, badLossless, badKind}
-use Rattle.reconstruct.specs.Reconstruct.{side, area, badQuantizers, badPlane, shapeOf}
+use Rattle.answers.specs.Bad.{badDepth, badSize, badLossless, badTxType}
+use Rattle.answers.specs.Sizes.{side, area}
+use Rattle.reconstruct.specs.Reconstruct.{badQuantizers, badPlane, shapeOf}
 use Rattle.reconstruct.proofs.Sizes.{side-most}
 use Rattle.reconstruct.proofs.check.Statement.{statement}
 use Rattle.reconstruct.proofs.check.Tie as tie
@@ -23,16 +24,16 @@ no2 c = sym (c .before .bad-size .ensures) ∙ c .if2 .left
 no3 : (c : tie.Else3) → let a = c .before .before .before .before .before .before .args in badLossless (a .lossless) (a .size) ≡ false
 no3 c = sym (c .before .bad-lossless .ensures) ∙ c .if3 .left
 
-no4 : (c : tie.Else4) → let a = c .before .before .before .before .before .before .before .before .args in badKind (a .lossless) (a .size) (a .kind) ≡ false
-no4 c = sym (c .before .bad-kind .ensures) ∙ c .if4 .left
+no4 : (c : tie.Else4) → let a = c .before .before .before .before .before .before .before .before .args in badTxType (a .lossless) (a .size) (a .tx-type) ≡ false
+no4 c = sym (c .before .bad-tx-type .ensures) ∙ c .if4 .left
 
 no5 : (c : tie.Else5) → let a = c .before .before .before .before .before .before .before .before .before .before .args in badQuantizers (a .dc-quant) (a .ac-quant) ≡ false
 no5 c = sym (c .before .bad-quantizers .ensures) ∙ c .if5 .left
 
-square : (c : tie.After-side) → let a = c .before .before .before .before .before .before .before .before .before .before .before .args in c .side .result * c .side .result ≡ area (a .size)
+square : (c : tie.After-side) → let a = c .before .before .before .before .before .before .before .before .before .before .before .args in c .side .result * c .side .result ≡ area (a .size + 2)
 square c = rw (c .side .ensures)
 
-no6 : (c : tie.Else6) → let a = c .before .before .before .before .before .before .before .before .before .before .before .before .args in not (eqb (a .tokens) (area (a .size))) ≡ false
+no6 : (c : tie.Else6) → let a = c .before .before .before .before .before .before .before .before .before .before .before .before .args in not (eqb (a .tokens) (area (a .size + 2))) ≡ false
 no6 c = ap not (eq-eqb _ _ (c .if6 .left ∙ square (c .before)))
 
 no7 : (c : tie.Else7) → let a = c .before .before .before .before .before .before .before .before .before .before .before .before .before .before .args in badPlane (a .samples) (a .plane) ≡ false
@@ -55,7 +56,7 @@ returns-4 : tie.Need-returns-4
 unfolding shapeOf
 returns-4 c =
     let e3 = c .before .before in let e2 = e3 .before .before in
-    rw (no1 (e2 .before .before), no2 e2, no3 e3, sym (c .before .bad-kind .ensures) ∙ c .if4 .taken)
+    rw (no1 (e2 .before .before), no2 e2, no3 e3, sym (c .before .bad-tx-type .ensures) ∙ c .if4 .taken)
 
 returns-5 : tie.Need-returns-5
 unfolding shapeOf

@@ -18,7 +18,7 @@ returns : tie.Need-returns
 returns c =
     let s = c .before .before .before .before .before .before .before .before in
     let e = rw (c .before .before .before .before .before .before .front .ensures) at (c .before .before .before .before .inverse4 .ensures) in
-    c .put-front .ensures ∙ rw e (by-front (s .args .kind) false (s .args .block .now) (s .pre .0))
+    c .put-front .ensures ∙ rw e (by-front (s .args .tx-type) false (s .args .block .now) (s .pre .0))
 
 pub lossy4-spec : {M : Type 1} → statement M
 lossy4-spec = tie.close (tie.spec (λ c κs. search needs) (λ c. search needs) inverse4-requires (λ c κs. search needs) returns)

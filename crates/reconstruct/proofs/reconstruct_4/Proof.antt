@@ -14,7 +14,7 @@ residual4-requires c κs = (c .before .zeros .ensures, c .before .before .before
 
 -- the block after the transform
 residuals : (c : tie.After-residual4) → let a = c .before .before .before .before .args in
-    c .residual4 .last .0 ≡ inverse2d 2 (a .kind) (a .lossless) (inFront 16 0 (a .dc-quant) (a .ac-quant) (a .tokens .now))
+    c .residual4 .last .0 ≡ inverse2d 2 (a .tx-type) (a .lossless) (inFront 16 0 (a .dc-quant) (a .ac-quant) (a .tokens .now))
 unfolding inFront
 residuals c = rw (c .before .before .zeros .ensures) at (c .residual4 .ensures)
 
@@ -25,8 +25,8 @@ add-back4-requires c κs =
     let t = s .pre .1 in
     rw (residuals (c .before .before)) (
       s .pre .0,
-      inverse2d-length 2 (a .kind) (a .lossless) (inFront 16 0 (a .dc-quant) (a .ac-quant) (a .tokens .now)) ∙ block-length 0 (a .dc-quant) (a .ac-quant) (a .kind) (a .lossless) (a .tokens .now) t,
-      residual-within 0 (a .dc-quant) (a .ac-quant) (a .kind) (a .lossless) (a .tokens .now) t,
+      inverse2d-length 2 (a .tx-type) (a .lossless) (inFront 16 0 (a .dc-quant) (a .ac-quant) (a .tokens .now)) ∙ block-length 0 (a .dc-quant) (a .ac-quant) (a .tx-type) (a .lossless) (a .tokens .now) t,
+      residual-within 0 (a .dc-quant) (a .ac-quant) (a .tx-type) (a .lossless) (a .tokens .now) t,
     )
 
 returns : tie.Need-returns
@@ -37,7 +37,7 @@ returns c =
     c .before .before .add-back4 .ensures
     ∙ rw (residuals (c .before .before .before .before .before))
     (same-residuals (a .plane) (a .samples .now) (s .pre .0) (a .top) (a .x) (a .y) 4 _ _
-    (residual-at 0 (a .dc-quant) (a .ac-quant) (a .kind) (a .lossless) (a .tokens .now) (s .pre .1)))
+    (residual-at 0 (a .dc-quant) (a .ac-quant) (a .tx-type) (a .lossless) (a .tokens .now) (s .pre .1)))
 
 pub reconstruct-4-spec : {M : Type 1} → statement M
 reconstruct-4-spec = tie.close (tie.spec (λ c κs. search needs) residual4-requires add-back4-requires (λ c. search needs) returns)

@@ -20,13 +20,13 @@ input s =
       tokens = s .args .tokens .now;
       dc = s .args .dc-quant;
       ac = s .args .ac-quant;
-      kind = s .args .tx-type;
+      tx-type = s .args .tx-type;
       lossless = s .args .lossless;
       depth = s .args .bit-depth;
     }
 
 abbrev shape : Input → ℕ
-shape u = shapeOf (length (u .samples)) (u .plane) (u .size) (length (u .tokens)) (u .dc) (u .ac) (u .kind) (u .lossless) (u .depth)
+shape u = shapeOf (length (u .samples)) (u .plane) (u .size) (length (u .tokens)) (u .dc) (u .ac) (u .tx-type) (u .lossless) (u .depth)
 
 -- the first part is passed
 first : (c : tie.Else1) → shape (input (c .before .before .before .before)) ≡ 0

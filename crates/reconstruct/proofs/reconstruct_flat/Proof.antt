@@ -13,7 +13,7 @@ use Rattle.whole.proofs.Within.{within-abs}
 use Rattle.blocks.specs.Inverse.{dcOnly}
 use borrow.Author.Needs.{needs}
 use Rattle.plane.proofs.Block.{same-residuals}
-use Rattle.reconstruct.specs.Reconstruct.{side}
+use Rattle.answers.specs.Sizes.{side}
 use Rattle.reconstruct.proofs.Sizes.{side-most}
 use Rattle.reconstruct.proofs.Residual.{dcOnly-within, row-within}
 use Rattle.reconstruct.proofs.reconstruct_flat.Statement.{statement}
@@ -65,7 +65,7 @@ returns c =
     let h = side-most (a .size) (s .pre .1) in
     c .before .before .add-back .ensures
     ∙ rw (row (c .before .before .before .before .before .before), c .before .before .before .side .ensures)
-    (same-residuals (a .plane) (a .samples .now) (s .pre .0) (a .top) (a .x) (a .y) (side (a .size)) _ (λ i j. v)
+    (same-residuals (a .plane) (a .samples .now) (s .pre .0) (a .top) (a .x) (a .y) (side (a .size + 2)) _ (λ i j. v)
     (λ i j hi hj. getD-replicate 32 (i * 0 + j) v (pos 0) (omega (arith, h))))
 
 pub reconstruct-flat-spec : {M : Type 1} → statement M

@@ -10,7 +10,8 @@ use borrow.Author.Needs.{needs}
 use Rattle.plane.proofs.Block.{same-residuals}
 use Rattle.blocks.specs.Inverse.{inverse2d}
 use Rattle.blocks.proofs.Inverse.{inverse2d-length}
-use Rattle.reconstruct.specs.Reconstruct.{side, area, added}
+use Rattle.answers.specs.Sizes.{side, area}
+use Rattle.reconstruct.specs.Reconstruct.{added}
 use Rattle.reconstruct.proofs.Sizes.{area-most, side-most, in-block}
 use Rattle.reconstruct.proofs.Residual.{size-most, inFront, in-front, block-length, block-room, block-within, residual-within, residual-at}
 use Rattle.reconstruct.proofs.reconstruct_n.Statement.{statement}
@@ -18,7 +19,7 @@ use Rattle.reconstruct.proofs.reconstruct_n.Tie as tie
 
 -- the block after dequantizing
 coefs : (c : tie.After-dequantize) → let a = c .before .before .before .before .args in
-    c .dequantize .last .0 ≡ inFront (area (a .size)) (a .size) (a .dc-quant) (a .ac-quant) (a .tokens .now)
+    c .dequantize .last .0 ≡ inFront (area (a .size + 2)) (a .size) (a .dc-quant) (a .ac-quant) (a .tokens .now)
 coefs c =
     let s = c .before .before .before .before in
     let a = s .args in
@@ -26,7 +27,7 @@ coefs c =
 
 -- and after the transform
 residuals : (c : tie.After-both-passes) → let a = c .before .before .before .before .before .before .args in
-    c .both-passes .last .0 ≡ inverse2d (a .size + 2) (a .kind) false (inFront (area (a .size)) (a .size) (a .dc-quant) (a .ac-quant) (a .tokens .now))
+    c .both-passes .last .0 ≡ inverse2d (a .size + 2) (a .tx-type) false (inFront (area (a .size + 2)) (a .size) (a .dc-quant) (a .ac-quant) (a .tokens .now))
 residuals c = rw (coefs (c .before .before)) at (c .both-passes .ensures)
 
 dequantize-requires : tie.Need-dequantize-requires
@@ -34,13 +35,13 @@ dequantize-requires c κs =
     let s = c .before .before .before in
     let a = s .args in
     let t = s .pre .1 in
-    (omega (arith, t .all, area-most (a .size) (size-most (a .size) (a .dc-quant) (a .ac-quant) (a .kind) false (a .tokens .now) t)), omega arith, t .codeables, t .quantizers)
+    (omega (arith, t .all, area-most (a .size) (size-most (a .size) (a .dc-quant) (a .ac-quant) (a .tx-type) false (a .tokens .now) t)), omega arith, t .codeables, t .quantizers)
 
 count : tie.Need-slice-aggregate-both-passes
 count c =
     let s = c .before .before .before .before .before in
     let a = s .args in
-    rw (coefs (c .before)) (sym (block-length (a .size) (a .dc-quant) (a .ac-quant) (a .kind) false (a .tokens .now) (s .pre .1)))
+    rw (coefs (c .before)) (sym (block-length (a .size) (a .dc-quant) (a .ac-quant) (a .tx-type) false (a .tokens .now) (s .pre .1)))
 
 both-passes-requires : tie.Need-both-passes-requires
 both-passes-requires c κs =
@@ -49,8 +50,8 @@ both-passes-requires c κs =
     let t = s .pre .1 in
     rw (coefs (c .before)) (
       t .possible,
-      block-room (a .size) (a .dc-quant) (a .ac-quant) (a .kind) false (a .tokens .now) t,
-      block-within (a .size) (a .dc-quant) (a .ac-quant) (a .kind) false (a .tokens .now) t,
+      block-room (a .size) (a .dc-quant) (a .ac-quant) (a .tx-type) false (a .tokens .now) t,
+      block-within (a .size) (a .dc-quant) (a .ac-quant) (a .tx-type) false (a .tokens .now) t,
     )
 
 add-back-requires : tie.Need-add-back-requires
@@ -58,14 +59,14 @@ add-back-requires c κs =
     let s = c .before .before .before .before .before .before .before .before .before .before in
     let a = s .args in
     let t = s .pre .1 in
-    let h = side-most (a .size) (size-most (a .size) (a .dc-quant) (a .ac-quant) (a .kind) false (a .tokens .now) t) in
-    let b = inFront (area (a .size)) (a .size) (a .dc-quant) (a .ac-quant) (a .tokens .now) in
+    let h = side-most (a .size) (size-most (a .size) (a .dc-quant) (a .ac-quant) (a .tx-type) false (a .tokens .now) t) in
+    let b = inFront (area (a .size + 2)) (a .size) (a .dc-quant) (a .ac-quant) (a .tokens .now) in
     rw (residuals (c .before .before .before .before), c .before .before .side .ensures) (
       s .pre .0,
       h,
       h,
-      λ i j hi hj. rw (inverse2d-length (a .size + 2) (a .kind) false b) (NatL.lt-of-lt-of-le (in-block (a .size) i j hi hj) (block-room (a .size) (a .dc-quant) (a .ac-quant) (a .kind) false (a .tokens .now) t)),
-      residual-within (a .size) (a .dc-quant) (a .ac-quant) (a .kind) false (a .tokens .now) t,
+      λ i j hi hj. rw (inverse2d-length (a .size + 2) (a .tx-type) false b) (NatL.lt-of-lt-of-le (in-block (a .size) i j hi hj) (block-room (a .size) (a .dc-quant) (a .ac-quant) (a .tx-type) false (a .tokens .now) t)),
+      residual-within (a .size) (a .dc-quant) (a .ac-quant) (a .tx-type) false (a .tokens .now) t,
     )
 
 returns : tie.Need-returns
@@ -75,8 +76,8 @@ returns c =
     let a = s .args in
     c .before .before .add-back .ensures
     ∙ rw (residuals (c .before .before .before .before .before .before .before), c .before .before .before .before .before .side .ensures)
-    (same-residuals (a .plane) (a .samples .now) (s .pre .0) (a .top) (a .x) (a .y) (side (a .size)) _ _
-    (residual-at (a .size) (a .dc-quant) (a .ac-quant) (a .kind) false (a .tokens .now) (s .pre .1)))
+    (same-residuals (a .plane) (a .samples .now) (s .pre .0) (a .top) (a .x) (a .y) (side (a .size + 2)) _ _
+    (residual-at (a .size) (a .dc-quant) (a .ac-quant) (a .tx-type) false (a .tokens .now) (s .pre .1)))
 
 pub reconstruct-n-spec : {M : Type 1} → statement M
 reconstruct-n-spec =

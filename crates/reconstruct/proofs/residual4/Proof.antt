@@ -16,7 +16,7 @@ use Rattle.reconstruct.proofs.residual4.Statement.{statement}
 use Rattle.reconstruct.proofs.residual4.Tie as tie
 
 -- what is given
-abbrev taken : (s : tie.Start) → Accepted 0 (s .args .dc-quant) (s .args .ac-quant) (s .args .kind) (s .args .lossless) (s .args .tokens .now)
+abbrev taken : (s : tie.Start) → Accepted 0 (s .args .dc-quant) (s .args .ac-quant) (s .args .tx-type) (s .args .lossless) (s .args .tokens .now)
 taken s = s .pre .1
 
 -- the block with the coefficients of all tokens
@@ -39,10 +39,10 @@ dead4 c k h l = go (decLt k 8)
     go (no m) = dead8 (c .before .before) k (omega arith) l
 
 -- place 0 alone, and type 0
-only : (c : tie.Then4) → let a = c .before .before .before .args in (a .kind ≡ 0) × (live 1 15 (a .tokens .now) ≡ false)
+only : (c : tie.Then4) → let a = c .before .before .before .args in (a .tx-type ≡ 0) × (live 1 15 (a .tokens .now) ≡ false)
 only c =
     let s = c .before .before .before in
-    let p = only-first-is (s .args .kind) (s .args .tokens .now) (sym (c .before .only-first .ensures) ∙ c .if4 .taken) in
+    let p = only-first-is (s .args .tx-type) (s .args .tokens .now) (sym (c .before .only-first .ensures) ∙ c .if4 .taken) in
     (p .0, rw (taken s .all) at (p .1))
 
 dead1 : (c : tie.Then4) → (k : ℕ) → 1 ≤ k → k < 16 → getD (c .before .before .before .args .tokens .now) k (pos 0) ≡ pos 0
@@ -55,31 +55,31 @@ block1 : (c : tie.After-dequantize) → c .dequantize .last .0 ≡ whole (c .bef
 block1 c =
     let s = c .before .before .before .before .before in
     let a = s .args in
-    filled (a .dc-quant) (a .ac-quant) (a .kind) (a .lossless) (a .tokens .now) (taken s) (a .block .now) (s .pre .0) 16 (omega arith) (λ k h l. absurd (omega arith)) (c .dequantize .ensures)
+    filled (a .dc-quant) (a .ac-quant) (a .tx-type) (a .lossless) (a .tokens .now) (taken s) (a .block .now) (s .pre .0) 16 (omega arith) (λ k h l. absurd (omega arith)) (c .dequantize .ensures)
 
 block2 : (c : tie.After-dequantize2) → c .dequantize2 .last .0 ≡ whole (c .before .before .before .before .before .before .before)
 block2 c =
     let s = c .before .before .before .before .before .before .before in
     let a = s .args in
-    filled (a .dc-quant) (a .ac-quant) (a .kind) (a .lossless) (a .tokens .now) (taken s) (a .block .now) (s .pre .0) 8 (omega arith) (dead8 (c .before .before .before .before)) (c .dequantize2 .ensures)
+    filled (a .dc-quant) (a .ac-quant) (a .tx-type) (a .lossless) (a .tokens .now) (taken s) (a .block .now) (s .pre .0) 8 (omega arith) (dead8 (c .before .before .before .before)) (c .dequantize2 .ensures)
 
 block3 : (c : tie.After-dequantize3) → c .dequantize3 .last .0 ≡ whole (c .before .before .before .before .before .before .before)
 block3 c =
     let s = c .before .before .before .before .before .before .before in
     let a = s .args in
-    filled (a .dc-quant) (a .ac-quant) (a .kind) (a .lossless) (a .tokens .now) (taken s) (a .block .now) (s .pre .0) 4 (omega arith) (dead4 (c .before .before)) (c .dequantize3 .ensures)
+    filled (a .dc-quant) (a .ac-quant) (a .tx-type) (a .lossless) (a .tokens .now) (taken s) (a .block .now) (s .pre .0) 4 (omega arith) (dead4 (c .before .before)) (c .dequantize3 .ensures)
 
 block4 : (c : tie.After-dequantize4) → c .dequantize4 .last .0 ≡ whole (c .before .before .before .before .before)
 block4 c =
     let s = c .before .before .before .before .before in
     let a = s .args in
-    filled (a .dc-quant) (a .ac-quant) (a .kind) (a .lossless) (a .tokens .now) (taken s) (a .block .now) (s .pre .0) 1 (omega arith) (dead1 (c .before .before)) (c .dequantize4 .ensures)
+    filled (a .dc-quant) (a .ac-quant) (a .tx-type) (a .lossless) (a .tokens .now) (taken s) (a .block .now) (s .pre .0) 1 (omega arith) (dead1 (c .before .before)) (c .dequantize4 .ensures)
 
 block5 : (c : tie.After-dequantize5) → c .dequantize5 .last .0 ≡ whole (c .before .before .before .before .before)
 block5 c =
     let s = c .before .before .before .before .before in
     let a = s .args in
-    filled (a .dc-quant) (a .ac-quant) (a .kind) (a .lossless) (a .tokens .now) (taken s) (a .block .now) (s .pre .0) 16 (omega arith) (λ k h l. absurd (omega arith)) (c .dequantize5 .ensures)
+    filled (a .dc-quant) (a .ac-quant) (a .tx-type) (a .lossless) (a .tokens .now) (taken s) (a .block .now) (s .pre .0) 16 (omega arith) (λ k h l. absurd (omega arith)) (c .dequantize5 .ensures)
 
 -- ---- the needs
 dequantize-requires : tie.Need-dequantize-requires
@@ -91,14 +91,14 @@ wht4-requires : tie.Need-wht4-requires
 wht4-requires c κs =
     let s = c .before .before .before .before .before .before in
     let a = s .args in
-    filled-fine (a .dc-quant) (a .ac-quant) (a .kind) (a .lossless) (a .tokens .now) (taken s) (a .block .now) (s .pre .0) (block1 (c .before))
+    filled-fine (a .dc-quant) (a .ac-quant) (a .tx-type) (a .lossless) (a .tokens .now) (taken s) (a .block .now) (s .pre .0) (block1 (c .before))
 
 returns : tie.Need-returns
 returns c =
     let s = c .before .before .before .before .before .before .before in
     let a = s .args in
-    made (a .dc-quant) (a .ac-quant) (a .kind) (a .lossless) (a .tokens .now) (taken s) (a .block .now) (s .pre .0) 0 true (block1 (c .before .before)) (c .wht4 .ensures)
-    (as-lossless (a .kind) (a .lossless) (c .before .before .before .before .before .before .if1 .taken))
+    made (a .dc-quant) (a .ac-quant) (a .tx-type) (a .lossless) (a .tokens .now) (taken s) (a .block .now) (s .pre .0) 0 true (block1 (c .before .before)) (c .wht4 .ensures)
+    (as-lossless (a .tx-type) (a .lossless) (c .before .before .before .before .before .before .if1 .taken))
 
 dequantize-requires-2 : tie.Need-dequantize-requires-2
 dequantize-requires-2 c κs =
@@ -109,14 +109,14 @@ wht4-requires-2 : tie.Need-wht4-requires-2
 wht4-requires-2 c κs =
     let s = c .before .before .before .before .before .before .before .before in
     let a = s .args in
-    filled-fine (a .dc-quant) (a .ac-quant) (a .kind) (a .lossless) (a .tokens .now) (taken s) (a .block .now) (s .pre .0) (block2 (c .before))
+    filled-fine (a .dc-quant) (a .ac-quant) (a .tx-type) (a .lossless) (a .tokens .now) (taken s) (a .block .now) (s .pre .0) (block2 (c .before))
 
 returns-2 : tie.Need-returns-2
 returns-2 c =
     let s = c .before .before .before .before .before .before .before .before .before in
     let a = s .args in
-    made (a .dc-quant) (a .ac-quant) (a .kind) (a .lossless) (a .tokens .now) (taken s) (a .block .now) (s .pre .0) 0 true (block2 (c .before .before)) (c .wht42 .ensures)
-    (as-lossless (a .kind) (a .lossless) (c .before .before .before .before .before .before .before .before .if1 .taken))
+    made (a .dc-quant) (a .ac-quant) (a .tx-type) (a .lossless) (a .tokens .now) (taken s) (a .block .now) (s .pre .0) 0 true (block2 (c .before .before)) (c .wht42 .ensures)
+    (as-lossless (a .tx-type) (a .lossless) (c .before .before .before .before .before .before .before .before .if1 .taken))
 
 dequantize-requires-3 : tie.Need-dequantize-requires-3
 dequantize-requires-3 c κs =
@@ -127,14 +127,14 @@ wht4-requires-3 : tie.Need-wht4-requires-3
 wht4-requires-3 c κs =
     let s = c .before .before .before .before .before .before .before .before in
     let a = s .args in
-    filled-fine (a .dc-quant) (a .ac-quant) (a .kind) (a .lossless) (a .tokens .now) (taken s) (a .block .now) (s .pre .0) (block3 (c .before))
+    filled-fine (a .dc-quant) (a .ac-quant) (a .tx-type) (a .lossless) (a .tokens .now) (taken s) (a .block .now) (s .pre .0) (block3 (c .before))
 
 returns-3 : tie.Need-returns-3
 returns-3 c =
     let s = c .before .before .before .before .before .before .before .before .before in
     let a = s .args in
-    made (a .dc-quant) (a .ac-quant) (a .kind) (a .lossless) (a .tokens .now) (taken s) (a .block .now) (s .pre .0) 0 true (block3 (c .before .before)) (c .wht43 .ensures)
-    (as-lossless (a .kind) (a .lossless) (c .before .before .before .before .before .before .before .before .if1 .taken))
+    made (a .dc-quant) (a .ac-quant) (a .tx-type) (a .lossless) (a .tokens .now) (taken s) (a .block .now) (s .pre .0) 0 true (block3 (c .before .before)) (c .wht43 .ensures)
+    (as-lossless (a .tx-type) (a .lossless) (c .before .before .before .before .before .before .before .before .if1 .taken))
 
 dequantize-requires-4 : tie.Need-dequantize-requires-4
 dequantize-requires-4 c κs =
@@ -146,15 +146,15 @@ flat4-requires c κs =
     let s = c .before .before .before .before .before .before in
     let a = s .args in
     let b = block4 (c .before) in
-    let f = filled-fine (a .dc-quant) (a .ac-quant) (a .kind) (a .lossless) (a .tokens .now) (taken s) (a .block .now) (s .pre .0) b in
-    (f .0, f .1, filled-dead (a .dc-quant) (a .ac-quant) (a .kind) (a .lossless) (a .tokens .now) (taken s) (a .block .now) (s .pre .0) b (only (c .before .before .before) .1))
+    let f = filled-fine (a .dc-quant) (a .ac-quant) (a .tx-type) (a .lossless) (a .tokens .now) (taken s) (a .block .now) (s .pre .0) b in
+    (f .0, f .1, filled-dead (a .dc-quant) (a .ac-quant) (a .tx-type) (a .lossless) (a .tokens .now) (taken s) (a .block .now) (s .pre .0) b (only (c .before .before .before) .1))
 
 returns-4 : tie.Need-returns-4
 returns-4 c =
     let s = c .before .before .before .before .before .before .before in
     let a = s .args in
-    made (a .dc-quant) (a .ac-quant) (a .kind) (a .lossless) (a .tokens .now) (taken s) (a .block .now) (s .pre .0) 0 false (block4 (c .before .before)) (c .flat4 .ensures)
-    (as-lossy 0 (a .kind) (a .lossless) (only (c .before .before .before .before) .0) (c .before .before .before .before .before .before .if1 .left))
+    made (a .dc-quant) (a .ac-quant) (a .tx-type) (a .lossless) (a .tokens .now) (taken s) (a .block .now) (s .pre .0) 0 false (block4 (c .before .before)) (c .flat4 .ensures)
+    (as-lossy 0 (a .tx-type) (a .lossless) (only (c .before .before .before .before) .0) (c .before .before .before .before .before .before .if1 .left))
 
 dequantize-requires-5 : tie.Need-dequantize-requires-5
 dequantize-requires-5 c κs =
@@ -165,14 +165,14 @@ lossy4-requires : tie.Need-lossy4-requires
 lossy4-requires c κs =
     let s = c .before .before .before .before .before .before in
     let a = s .args in
-    filled-fine (a .dc-quant) (a .ac-quant) (a .kind) (a .lossless) (a .tokens .now) (taken s) (a .block .now) (s .pre .0) (block5 (c .before))
+    filled-fine (a .dc-quant) (a .ac-quant) (a .tx-type) (a .lossless) (a .tokens .now) (taken s) (a .block .now) (s .pre .0) (block5 (c .before))
 
 returns-5 : tie.Need-returns-5
 returns-5 c =
     let s = c .before .before .before .before .before .before .before in
     let a = s .args in
-    made (a .dc-quant) (a .ac-quant) (a .kind) (a .lossless) (a .tokens .now) (taken s) (a .block .now) (s .pre .0) (a .kind) false (block5 (c .before .before)) (c .lossy4 .ensures)
-    (as-lossy (a .kind) (a .kind) (a .lossless) refl (c .before .before .before .before .before .before .if1 .left))
+    made (a .dc-quant) (a .ac-quant) (a .tx-type) (a .lossless) (a .tokens .now) (taken s) (a .block .now) (s .pre .0) (a .tx-type) false (block5 (c .before .before)) (c .lossy4 .ensures)
+    (as-lossy (a .tx-type) (a .tx-type) (a .lossless) refl (c .before .before .before .before .before .before .if1 .left))
 
 only-first-requires : tie.Need-only-first-requires
 only-first-requires c κs = (omega arith, taken (c .before) .all)

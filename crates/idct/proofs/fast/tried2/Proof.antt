@@ -11,7 +11,7 @@ use Rattle.idct.proofs.fast.tried2.Tie as tie
 
 -- what the call is given
 abbrev given : tie.Start → Input
-given s = record { block = s .args .block .now; n = 2; kind = s .args .tx-type; lossless = false }
+given s = record { block = s .args .block .now; n = 2; tx-type = s .args .tx-type; lossless = false }
 
 within : (c : tie.Else1) → anyBeyond COEF_LIMIT 16 (c .before .before .before .args .block .now) ≡ false
 within c = c .before .surely-within .ensures (not-false _ (c .if1 .left))

@@ -10,14 +10,15 @@ use mir.Val.{Fits}
 use mir.Facts.{toZ-ofZ}
 use Rattle.answers.specs.Bad.{anyBeyond}
 use Rattle.answers.specs.Limits.{COEF_LIMIT}
-use Rattle.idct.specs.Driver.{Input, area}
+use Rattle.answers.specs.Sizes.{area}
+use Rattle.idct.specs.Driver.{Input}
 use Rattle.idct.proofs.Answers.{made, left, in-range, Alone, alone, area-some, area-more, dc-beyond, dc-written}
 use Rattle.idct.proofs.fast.tried_large.Statement.{statement}
 use Rattle.idct.proofs.fast.tried_large.Tie as tie
 
 -- what the call is given
 abbrev given : tie.Start → Input
-given s = record { block = s .args .block .now; n = s .args .n; kind = s .args .tx-type; lossless = false }
+given s = record { block = s .args .block .now; n = s .args .n; tx-type = s .args .tx-type; lossless = false }
 
 -- numbers of the block
 all-fits : (c : tie.After-side) → Fits w64 (c .side .result * c .side .result)

@@ -19,7 +19,7 @@ use Rattle.idct.proofs.fast.wht_tried.Tie as tie
 
 -- what the call is given
 abbrev given : tie.Start → Input
-given s = record { block = s .args .block .now; n = 2; kind = 0; lossless = true }
+given s = record { block = s .args .block .now; n = 2; tx-type = 0; lossless = true }
 
 within : (c : tie.Else1) → anyBeyond COEF_LIMIT 16 (c .before .before .before .before .before .args .block .now) ≡ false
 within c =
