@@ -3,11 +3,14 @@ use mathlib.Core.Path.{_≡_, refl, sym, ap, _∙_}
 use mathlib.Core.List.{List, [], _∷_, _++_}
 use Prim.Native.Nat.{ℕ}
 use lib.IntN.{ℤ}
-use Rattle.whole.specs.Steps.{run, Ok, none, next, Left}
-use Rattle.whole.proofs.Steps.{ok-here, ok-rest, left-stage, left-last}
-use Rattle.steps.specs.Step.{Step, step, Fine}
-use Rattle.steps.specs.Step2.{Arrays, Step2, step2, Fine2}
-use Rattle.adst.specs.Adst.{arrays, onT}
+use Rattle.whole.specs.Steps.{run}
+use Rattle.whole.specs.Inner.{Ok, none, next}
+use Rattle.whole.proofs.Steps.{Left, ok-here, ok-rest, left-stage, left-last}
+use Rattle.steps.specs.Step.{Step, step}
+use Rattle.steps.specs.Inner.{Fine, Fine2}
+use Rattle.steps.specs.Step2.{Arrays, Step2, step2}
+use Rattle.adst.specs.Adst.{onT}
+use Rattle.adst.specs.Inner.{arrays}
 
 on-run : (ss : List Step) (t s : List ℤ) → run step2 (onT ss) (arrays t s) ≡ arrays (run step ss t) s
 unfolding run onT step2

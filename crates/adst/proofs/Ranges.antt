@@ -5,11 +5,14 @@ use Prim.Native.Nat.{ℕ, _^_, _≤_}
 use lib.Dec.{T}
 use lib.IntN.{ℤ}
 use lib.ListN.{replicate}
-use Rattle.whole.specs.Within.{EachWithin}
+use Rattle.whole.proofs.Within.{EachWithin}
 use Rattle.whole.specs.Lists.{fill, move}
-use Rattle.whole.specs.Steps.{run, each, Ok, checks}
+use Rattle.whole.specs.Steps.{run, each}
+use Rattle.whole.specs.Inner.{Ok}
+use Rattle.whole.proofs.Steps.{checks}
 use Rattle.primitives.specs.Cosine.{Cos64, Sin64, cosAt}
-use Rattle.steps.specs.Step2.{step2, fresh, Fine2}
+use Rattle.steps.specs.Step2.{step2, fresh}
+use Rattle.steps.specs.Inner.{Fine2}
 use Rattle.steps.proofs.Bounds.{after, fine, after2, fine2, passes2, largest, grown2, pass-sound2}
 use Rattle.adst.specs.Adst.{adstIn, out8, out16, adstOut, onT, adst8Steps, adst16Steps, adstSteps, adst}
 use Rattle.adst.proofs.Adst.{two-to-four}

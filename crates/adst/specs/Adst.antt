@@ -7,7 +7,7 @@ use lib.Dec.{eqb}
 use lib.IntN.{ℤ, pos, _-ℤ_}
 use Rattle.whole.specs.Steps.{run, each, _⨾_}
 use Rattle.steps.specs.Step.{Step, Bf, Hd, Neg, Move, A4}
-use Rattle.steps.specs.Step2.{Arrays, Step2, on, SB, SH, step2, fresh}
+use Rattle.steps.specs.Step2.{Step2, on, SB, SH, step2, fresh}
 
 -- the input permutation, §8.7.1.4: where T[k] comes from, T[2i] = copyT[n0 - 1 - 2i] and T[2i + 1] = copyT[2i]
 unfoldable pub adstIn : ℕ → ℕ → ℕ
@@ -101,10 +101,6 @@ sixteen10 i j = Bf (2 + 4 * j + 8 * i) (3 + 4 * j + 8 * i) (pos (48 + 64 * bitXo
 -- one turn of step 12 of ADST16
 abbrev pub sixteen12 : ℕ → ℕ → List Step
 sixteen12 j i = Neg (1 + 12 * j + 2 * i) ∷ []
-
--- T and S as the two arrays
-abbrev pub arrays : List ℤ → List ℤ → Arrays
-arrays t s = record { T = t; S = s }
 
 -- steps of T alone
 unfoldable pub onT : List Step → List Step2

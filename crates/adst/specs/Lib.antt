@@ -1,1 +1,2 @@
 pub mod Adst
+pub mod Inner

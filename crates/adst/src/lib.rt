@@ -1,10 +1,13 @@
 ghost use mathlib.Core.Path.{_≡_};
 ghost use Prim.Native.Nat.{ℕ, _+_, _-_, _*_, _^_, _≤_, _<_};
 ghost use lib.IntN.{pos, _-ℤ_};
-ghost use Rattle.whole.specs.Steps.{run, each, Ok};
-ghost use Rattle.steps.specs.Step.{Move, step, Fine, FourWithin, adst4};
-ghost use Rattle.steps.specs.Step2.{step2, fresh, Fine2};
-ghost use Rattle.adst.specs.Adst.{adstIn, adstOut, arrays, eight2, eight3, eight4, eight5, eight6, eight7, eight9, sixteen2, sixteen3, sixteen4, sixteen5, sixteen6, sixteen7, sixteen8, sixteen9, sixteen10, sixteen12, adst8Steps, adst16Steps, adstSteps, adst};
+ghost use Rattle.whole.specs.Steps.{run, each};
+ghost use Rattle.whole.specs.Inner.{Ok};
+ghost use Rattle.steps.specs.Step.{Move, step, adst4};
+ghost use Rattle.steps.specs.Inner.{Fine, FourWithin, Fine2};
+ghost use Rattle.steps.specs.Step2.{step2, fresh};
+ghost use Rattle.adst.specs.Adst.{adstIn, adstOut, eight2, eight3, eight4, eight5, eight6, eight7, eight9, sixteen2, sixteen3, sixteen4, sixteen5, sixteen6, sixteen7, sixteen8, sixteen9, sixteen10, sixteen12, adst8Steps, adst16Steps, adstSteps, adst};
+ghost use Rattle.adst.specs.Inner.{arrays};
 
 // SINPI_1_9 to SINPI_4_9: round(16384 · 2√2/3 · sin(k π / 9)).
 const SINPI_1_9: i64 = 5283;

@@ -6,8 +6,7 @@ use Prim.Native.Nat.{ℕ, suc, _≤_, _<_}
 use native.Mathlib.Omega.{arith}
 use lib.Dec.{T, ltb, ltb→lt}
 use lib.ListN.{getD}
-use Rattle.whole.specs.Tests.{both}
-use Rattle.whole.proofs.Tests.{b₁, b₂}
+use Rattle.whole.proofs.Tests.{both, b₁, b₂}
 use Rattle.answers.specs.declared.Answer.{Answer}
 use Rattle.answers.specs.declared.Answer.the-variants.{Done, Depth, Size, LosslessSize, TxType, Quantizer, Length, Plane, Token, Coefficient, Mark, Version, CutShort, TooLarge, LosslessByte}
 use Rattle.answers.specs.Answers.{number, lowest}

@@ -13,12 +13,13 @@ use lib.IntN.{ℤ, pos}
 use lib.ListN.{length, getD, List·getD-eq-default}
 use lib.Seq.{ext-getD}
 use Rattle.whole.specs.Lists.{tabulate}
-use Rattle.whole.specs.Loops.{times}
+use Rattle.whole.specs.Inner.{times}
 use Rattle.whole.proofs.Lists.{length-tabulate, getD-tabulate}
 use Rattle.whole.proofs.Loops.{times-keeps}
-use Rattle.blocks.specs.Block.{line, row, column, anew, rows, columns, on}
+use Rattle.blocks.specs.Block.{line, row, column, anew, rows, columns}
+use Rattle.blocks.specs.Inner.{changeLine}
 use Rattle.blocks.proofs.Places.{in-row, in-column, rows-apart, columns-apart, le-or-lt, by-place}
-use Rattle.blocks.proofs.Lines.{line-same, on-length, on-other, on-at}
+use Rattle.blocks.proofs.Lines.{line-same, changeLine-length, changeLine-other, changeLine-at}
 
 -- ---- a block made anew
 module _ (n0 : ℕ) (f : ℕ → ℕ → ℤ) (s : List ℤ) where
@@ -50,31 +51,31 @@ block-ext n0 s u l inside past =
 -- ---- M lines that do not meet: the place `base i + k * step` is of one i and one k alone
 module _ (T : List ℤ → List ℤ) (r : ℤ → ℤ) (base : ℕ → ℕ) (step n M : ℕ)
     (apart : (i j k l : ℕ) → i < M → j < M → k < n → l < n → base i + k * step ≡ base j + l * step → (i ≡ j) × (k ≡ l)) where
-  lines-length : (m : ℕ) (s : List ℤ) → length (times m (λ i. on T r (base i) step n) s) ≡ length s
-  lines-length m s = times-keeps (λ y. length y ≡ length s) (λ i. on T r (base i) step n) m s (λ i h y e. on-length T r (base i) step n y ∙ e) refl
+  lines-length : (m : ℕ) (s : List ℤ) → length (times m (λ i. changeLine T r (base i) step n) s) ≡ length s
+  lines-length m s = times-keeps (λ y. length y ≡ length s) (λ i. changeLine T r (base i) step n) m s (λ i h y e. changeLine-length T r (base i) step n y ∙ e) refl
 
   lines-other : (m : ℕ) (s : List ℤ) (p : ℕ) → ((i k : ℕ) → i < m → k < n → p ≢ base i + k * step)
-      → getD (times m (λ i. on T r (base i) step n) s) p (pos 0) ≡ getD s p (pos 0)
+      → getD (times m (λ i. changeLine T r (base i) step n) s) p (pos 0) ≡ getD s p (pos 0)
   lines-other m s p away =
-      times-keeps (λ y. getD y p (pos 0) ≡ getD s p (pos 0)) (λ i. on T r (base i) step n) m s
-      (λ i h y e. on-other T r (base i) step n y p (λ k hk. away i k h hk) ∙ e) refl
+      times-keeps (λ y. getD y p (pos 0) ≡ getD s p (pos 0)) (λ i. changeLine T r (base i) step n) m s
+      (λ i h y e. changeLine-other T r (base i) step n y p (λ k hk. away i k h hk) ∙ e) refl
 
   -- a line that is still to come is as it was
-  line-to-come : (m : ℕ) (s : List ℤ) → m < M → line (base m) step n (times m (λ i. on T r (base i) step n) s) ≡ line (base m) step n s
+  line-to-come : (m : ℕ) (s : List ℤ) → m < M → line (base m) step n (times m (λ i. changeLine T r (base i) step n) s) ≡ line (base m) step n s
   line-to-come m s h =
-      line-same (base m) step n (times m (λ i. on T r (base i) step n) s) s
+      line-same (base m) step n (times m (λ i. changeLine T r (base i) step n) s) s
       (λ j hj. lines-other m s (base m + j * step) (λ a b ha hb q. let z : m ≡ a = apart m a j b h (omega arith) hj hb q .0 in omega arith))
 
   lines-at : (m : ℕ) (s : List ℤ) (i k : ℕ) → m ≤ M → i < m → k < n → base i + k * step < length s
-      → getD (times m (λ i. on T r (base i) step n) s) (base i + k * step) (pos 0) ≡ r (getD (T (line (base i) step n s)) k (pos 0))
+      → getD (times m (λ i. changeLine T r (base i) step n) s) (base i + k * step) (pos 0) ≡ r (getD (T (line (base i) step n s)) k (pos 0))
   unfolding times
   lines-at zero s i k hm hi hk l = absurd (omega arith)
   lines-at (suc m) s i k hm hi hk l = ⊎-elim
       (λ (e : i ≡ m). rw e
-      (on-at T r (base m) step n (times m (λ i. on T r (base i) step n) s) k hk (rw (lines-length m s) (rw e at l))
+      (changeLine-at T r (base m) step n (times m (λ i. changeLine T r (base i) step n) s) k hk (rw (lines-length m s) (rw e at l))
       (λ j hj kj q. let z : k ≡ j = apart m m k j (omega arith) (omega arith) hk hj q .1 in omega arith)
       ∙ ap (λ (t : List ℤ). r (getD (T t) k (pos 0))) (line-to-come m s (omega arith))))
-      (λ (h : i < m). on-other T r (base m) step n (times m (λ i. on T r (base i) step n) s) (base i + k * step)
+      (λ (h : i < m). changeLine-other T r (base m) step n (times m (λ i. changeLine T r (base i) step n) s) (base i + k * step)
       (λ j hj q. let z : i ≡ m = apart i m k j (omega arith) (omega arith) hk hj q .0 in omega arith)
       ∙ lines-at m s i k (omega arith) h hk l)
       (eq-or-lt-of-le (omega arith))
@@ -94,9 +95,9 @@ module _ (T : List ℤ → List ℤ) (n0 : ℕ) (s : List ℤ) where
   rows-past p h = anew-past n0 (λ i j. getD (T (row n0 i s)) j (pos 0)) s p h
 
   -- a loop over the rows: what it has done after n0 turns, and which row it meets in turn i
-  pub rows-loop : n0 * n0 ≤ length s → times n0 (λ i. on T (λ z. z) (i * n0) 1 n0) s ≡ rows T n0 s
+  pub rows-loop : n0 * n0 ≤ length s → times n0 (λ i. changeLine T (λ z. z) (i * n0) 1 n0) s ≡ rows T n0 s
   rows-loop room =
-      let after = times n0 (λ i. on T (λ z. z) (i * n0) 1 n0) s in
+      let after = times n0 (λ i. changeLine T (λ z. z) (i * n0) 1 n0) s in
       block-ext n0 after (rows T n0 s)
       (lines-length T (λ z. z) (λ i. i * n0) 1 n0 n0 (rows-apart n0) n0 s ∙ sym rows-length)
       (λ i j hi hj. rw (mul-one j) at (lines-at T (λ z. z) (λ i. i * n0) 1 n0 n0 (rows-apart n0) n0 s i j (omega arith) hi hj (in-row n0 i j (length s) hi hj room)) ∙ sym (rows-at room i j hi hj))
@@ -104,7 +105,7 @@ module _ (T : List ℤ → List ℤ) (n0 : ℕ) (s : List ℤ) where
       (λ i k hi hk e. let z : i * n0 + k * 1 < n0 * n0 = in-row n0 i k (n0 * n0) hi hk (omega arith) in omega arith)
       ∙ sym (rows-past p h))
 
-  pub row-to-come : (i : ℕ) → i < n0 → row n0 i (times i (λ i. on T (λ z. z) (i * n0) 1 n0) s) ≡ row n0 i s
+  pub row-to-come : (i : ℕ) → i < n0 → row n0 i (times i (λ i. changeLine T (λ z. z) (i * n0) 1 n0) s) ≡ row n0 i s
   row-to-come i h = line-to-come T (λ z. z) (λ i. i * n0) 1 n0 n0 (rows-apart n0) i s h
 
 module _ (T : List ℤ → List ℤ) (r : ℤ → ℤ) (n0 : ℕ) (s : List ℤ) where
@@ -120,9 +121,9 @@ module _ (T : List ℤ → List ℤ) (r : ℤ → ℤ) (n0 : ℕ) (s : List ℤ)
   unfolding columns
   columns-past p h = anew-past n0 (λ i j. r (getD (T (column n0 j s)) i (pos 0))) s p h
 
-  pub columns-loop : n0 * n0 ≤ length s → times n0 (λ j. on T r j n0 n0) s ≡ columns T r n0 s
+  pub columns-loop : n0 * n0 ≤ length s → times n0 (λ j. changeLine T r j n0 n0) s ≡ columns T r n0 s
   columns-loop room =
-      let after = times n0 (λ j. on T r j n0 n0) s in
+      let after = times n0 (λ j. changeLine T r j n0 n0) s in
       block-ext n0 after (columns T r n0 s)
       (lines-length T r (λ j. j) n0 n0 n0 (columns-apart n0) n0 s ∙ sym columns-length)
       (λ i j hi hj. rw (add-comm j (i * n0)) at (lines-at T r (λ j. j) n0 n0 n0 (columns-apart n0) n0 s j i (omega arith) hj hi (in-column n0 j i (length s) hj hi room)) ∙ sym (columns-at room i j hi hj))
@@ -130,5 +131,5 @@ module _ (T : List ℤ → List ℤ) (r : ℤ → ℤ) (n0 : ℕ) (s : List ℤ)
       (λ j k hj hk e. let z : j + k * n0 < n0 * n0 = in-column n0 j k (n0 * n0) hj hk (omega arith) in omega arith)
       ∙ sym (columns-past p h))
 
-  pub column-to-come : (j : ℕ) → j < n0 → column n0 j (times j (λ j. on T r j n0 n0) s) ≡ column n0 j s
+  pub column-to-come : (j : ℕ) → j < n0 → column n0 j (times j (λ j. changeLine T r j n0 n0) s) ≡ column n0 j s
   column-to-come j h = line-to-come T r (λ j. j) n0 n0 n0 (columns-apart n0) j s h

@@ -2,7 +2,7 @@
 use mathlib.Core.Path.{_≡_, sym, ap, _∙_}
 use mathlib.Core.Bool.{Bool, true, false}
 use mathlib.Core.List.{List}
-use Prim.Native.Nat.{ℕ, zero, _+_, _-_, _*_, _/_, _^_, _≤_, _<_}
+use Prim.Native.Nat.{ℕ, _+_, _-_, _*_, _/_, _^_, _≤_, _<_}
 use native.Mathlib.Nat as NatL
 use native.Mathlib.Omega.{arith}
 use lib.Arith.{digits-lt}
@@ -14,13 +14,14 @@ use Rattle.whole.specs.Round.{Round2}
 use Rattle.whole.specs.Within.{Within}
 use Rattle.whole.proofs.Round.{round2-within}
 use Rattle.whole.proofs.Within.{within-le}
-use Rattle.steps.specs.Step.{turned}
+use Rattle.steps.specs.Inner.{turned}
 use Rattle.steps.proofs.Shapes.{Zeros, Alone}
 use Rattle.dct.proofs.Dct.{dct-dc, dct-zeros, two-to-five}
-use Rattle.blocks.specs.Block.{line, row, column, anew, rows, columns, on, rowsThenColumns, live, FirstWithin}
-use Rattle.blocks.specs.Inverse.{Pass, Dct, apply, rowPass, columnPass, bits, rounding, inverse2d, dcOnly, Possible, Safe}
+use Rattle.blocks.specs.Block.{line, row, column, anew, rows, columns, rowsThenColumns}
+use Rattle.blocks.specs.Inner.{changeLine, live, FirstWithin, dcValue, Possible, Safe}
+use Rattle.blocks.specs.Inverse.{Pass, Dct, apply, rowPass, columnPass, bits, rounding, inverse2d}
 use Rattle.blocks.proofs.Places.{in-row, in-column, by-place}
-use Rattle.blocks.proofs.Lines.{line-length, line-at, fill-length, fill-at, fill-past, on-still}
+use Rattle.blocks.proofs.Lines.{line-length, line-at, fill-length, fill-at, fill-past, changeLine-still}
 use Rattle.blocks.proofs.Live.{dead-at}
 use Rattle.blocks.proofs.Blocks.{anew-length, anew-at, anew-past, block-ext, rows-length, rows-at, rows-past, columns-length, columns-at, columns-past}
 use Rattle.blocks.proofs.Passes.{Valid, first-each, each-first, pass-row, pass-column, row-valid, column-valid}
@@ -122,14 +123,14 @@ inverse2d-within n tx-type lossless s q room b =
 
 -- ---- ZERO ROWS: a row of zeros stays as it is, whatever the pass
 pub zero-row : (p : Pass) (n n0 : ℕ) → ((t : List ℤ) → Zeros (n0) t → apply p n t ≡ t) → n0 ≤ 32 → (start : ℕ) (s : List ℤ) → live start (n0) s ≡ false
-    → on (apply p n) (λ z. z) start 1 (n0) s ≡ s
+    → changeLine (apply p n) (λ z. z) start 1 (n0) s ≡ s
 zero-row p n n0 f h start s e =
     let t = line start 1 (n0) s in
     let z : Zeros (n0) t = record {
       long = rw (line-length start 1 (n0) s) h;
       zeros = λ k l. line-at start 1 (n0) s k h l ∙ rw (NatL.mul-one k) (dead-at start (n0) s e k l);
     } in
-    on-still (apply p n) (λ z. z) start 1 (n0) s h (λ k l. ap (λ (u : List ℤ). getD u k (pos 0)) (f t z))
+    changeLine-still (apply p n) (λ z. z) start 1 (n0) s h (λ k l. ap (λ (u : List ℤ). getD u k (pos 0)) (f t z))
 
 -- ---- DC-ONLY: where all but place 0 is 0, type 0 gives one number everywhere
 module _ (n : ℕ) (l : 2 ≤ n) (h : n ≤ 5) (s : List ℤ) (room : 2 ^ n * 2 ^ n ≤ length s) (dead : live 1 (2 ^ n * 2 ^ n - 1) s ≡ false) where
@@ -169,15 +170,15 @@ module _ (n : ℕ) (l : 2 ≤ n) (h : n ≤ 5) (s : List ℤ) (room : 2 ^ n * 2 
         ∙ rw (dct-zeros n l h (other-row k z q)) (other-row k z q .zeros j hj));
   }
 
-  pub dc-only : inverse2d n 0 false s ≡ anew (2 ^ n) (λ i j. dcOnly n (getD s 0 (pos 0))) s
-  unfolding rows-done apply turned rounding dcOnly
+  pub dc-only : inverse2d n 0 false s ≡ anew (2 ^ n) (λ i j. dcValue n (getD s 0 (pos 0))) s
+  unfolding rows-done apply turned rounding dcValue
   dc-only =
-      block-ext (2 ^ n) (inverse2d n 0 false s) (anew (2 ^ n) (λ i j. dcOnly n (getD s 0 (pos 0))) s)
-      (inverse2d-length n 0 false s ∙ sym (anew-length (2 ^ n) (λ i j. dcOnly n (getD s 0 (pos 0))) s))
+      block-ext (2 ^ n) (inverse2d n 0 false s) (anew (2 ^ n) (λ i j. dcValue n (getD s 0 (pos 0))) s)
+      (inverse2d-length n 0 false s ∙ sym (anew-length (2 ^ n) (λ i j. dcValue n (getD s 0 (pos 0))) s))
       (λ i j hi hj. inverse2d-at n 0 false s room i j hi hj
       ∙ ap (λ (z : ℤ). Round2 z (bits n)) (dct-dc n l h (each-column j hj) i hi)
-      ∙ sym (anew-at (2 ^ n) (λ i j. dcOnly n (getD s 0 (pos 0))) s room i j hi hj))
-      (λ p q. inverse2d-past n 0 false s p q ∙ sym (anew-past (2 ^ n) (λ i j. dcOnly n (getD s 0 (pos 0))) s p q))
+      ∙ sym (anew-at (2 ^ n) (λ i j. dcValue n (getD s 0 (pos 0))) s room i j hi hj))
+      (λ p q. inverse2d-past n 0 false s p q ∙ sym (anew-past (2 ^ n) (λ i j. dcValue n (getD s 0 (pos 0))) s p q))
 
 -- the block filled with one number
 pub filled : (n0 : ℕ) (v : ℤ) (s : List ℤ) → n0 * n0 ≤ length s → fill (n0 * n0) (λ k. v) s ≡ anew n0 (λ i j. v) s

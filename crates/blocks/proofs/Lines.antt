@@ -9,9 +9,10 @@ use lib.IntN.{ℤ, pos}
 use lib.ListN.{length, getD, set, replicate, length-set}
 use lib.Seq.{getD-set-same, getD-set-other, set-getD, ext-getD}
 use Rattle.whole.specs.Lists.{fill}
-use Rattle.whole.specs.Loops.{times}
+use Rattle.whole.specs.Inner.{times}
 use Rattle.whole.proofs.Loops.{times-keeps}
-use Rattle.blocks.specs.Block.{line, put, on}
+use Rattle.blocks.specs.Block.{line}
+use Rattle.blocks.specs.Inner.{setLine, changeLine}
 use Rattle.blocks.proofs.Places.{le-or-lt}
 
 -- ---- what `fill` does to each place
@@ -97,32 +98,32 @@ stores-at p f (suc n) s k h l apart = ⊎-elim
     (eq-or-lt-of-le (omega arith))
 
 -- ---- what `put` and `on` do to each place
-pub put-length : (r : ℤ → ℤ) (start step n : ℕ) (t s : List ℤ) → length (put r start step n t s) ≡ length s
-unfolding put
-put-length r start step n t s = stores-length (λ k. start + k * step) (λ k. r (getD t k (pos 0))) n s
+pub setLine-length : (r : ℤ → ℤ) (start step n : ℕ) (t s : List ℤ) → length (setLine r start step n t s) ≡ length s
+unfolding setLine
+setLine-length r start step n t s = stores-length (λ k. start + k * step) (λ k. r (getD t k (pos 0))) n s
 
 -- to put what stands there changes nothing
-pub put-same : (r : ℤ → ℤ) (start step n : ℕ) (t s : List ℤ) → ((k : ℕ) → k < n → r (getD t k (pos 0)) ≡ getD s (start + k * step) (pos 0)) → put r start step n t s ≡ s
-unfolding put
-put-same r start step n t s e =
+pub setLine-same : (r : ℤ → ℤ) (start step n : ℕ) (t s : List ℤ) → ((k : ℕ) → k < n → r (getD t k (pos 0)) ≡ getD s (start + k * step) (pos 0)) → setLine r start step n t s ≡ s
+unfolding setLine
+setLine-same r start step n t s e =
     times-keeps (λ y. y ≡ s) (λ k s. set s (start + k * step) (r (getD t k (pos 0)))) n s
     (λ k h y q. rw q (rw (e k h) (set-getD s (start + k * step) (pos 0)))) refl
 
 module _ (T : List ℤ → List ℤ) (r : ℤ → ℤ) (start step n : ℕ) (s : List ℤ) where
-  pub on-length : length (on T r start step n s) ≡ length s
-  unfolding on
-  on-length = put-length r start step n (T (line start step n s)) s
+  pub changeLine-length : length (changeLine T r start step n s) ≡ length s
+  unfolding changeLine
+  changeLine-length = setLine-length r start step n (T (line start step n s)) s
 
-  pub on-other : (i : ℕ) → ((k : ℕ) → k < n → i ≢ start + k * step) → getD (on T r start step n s) i (pos 0) ≡ getD s i (pos 0)
-  unfolding on put
-  on-other i away = stores-other (λ k. start + k * step) (λ k. r (getD (T (line start step n s)) k (pos 0))) n s i away
+  pub changeLine-other : (i : ℕ) → ((k : ℕ) → k < n → i ≢ start + k * step) → getD (changeLine T r start step n s) i (pos 0) ≡ getD s i (pos 0)
+  unfolding changeLine setLine
+  changeLine-other i away = stores-other (λ k. start + k * step) (λ k. r (getD (T (line start step n s)) k (pos 0))) n s i away
 
-  pub on-at : (k : ℕ) → k < n → start + k * step < length s → ((j : ℕ) → j < n → k < j → start + k * step ≢ start + j * step)
-      → getD (on T r start step n s) (start + k * step) (pos 0) ≡ r (getD (T (line start step n s)) k (pos 0))
-  unfolding on put
-  on-at k h l apart = stores-at (λ k. start + k * step) (λ k. r (getD (T (line start step n s)) k (pos 0))) n s k h l apart
+  pub changeLine-at : (k : ℕ) → k < n → start + k * step < length s → ((j : ℕ) → j < n → k < j → start + k * step ≢ start + j * step)
+      → getD (changeLine T r start step n s) (start + k * step) (pos 0) ≡ r (getD (T (line start step n s)) k (pos 0))
+  unfolding changeLine setLine
+  changeLine-at k h l apart = stores-at (λ k. start + k * step) (λ k. r (getD (T (line start step n s)) k (pos 0))) n s k h l apart
 
   -- ZERO ROWS: where T leaves the line as it is, and r its numbers, the block stays
-  pub on-still : n ≤ 32 → ((k : ℕ) → k < n → r (getD (T (line start step n s)) k (pos 0)) ≡ getD (line start step n s) k (pos 0)) → on T r start step n s ≡ s
-  unfolding on
-  on-still h e = put-same r start step n (T (line start step n s)) s (λ k l. e k l ∙ line-at start step n s k h l)
+  pub changeLine-still : n ≤ 32 → ((k : ℕ) → k < n → r (getD (T (line start step n s)) k (pos 0)) ≡ getD (line start step n s) k (pos 0)) → changeLine T r start step n s ≡ s
+  unfolding changeLine
+  changeLine-still h e = setLine-same r start step n (T (line start step n s)) s (λ k l. e k l ∙ line-at start step n s k h l)

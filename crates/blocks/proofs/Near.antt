@@ -1,4 +1,4 @@
--- Numbers raised by a limit and or-ed together: what the whole says of each.
+-- Numbers, each plus a limit, or-ed together: what the whole says of each.
 use mathlib.Core.Path.{_≡_}
 use mathlib.Core.List.{List}
 use mathlib.Core.Logic.{⊎-elim}
@@ -23,10 +23,10 @@ pub or-right : (a b : ℕ) → b ≤ bitOr a b
 or-right a b = omega (arith, or-add-and a b, and-le-l a b)
 
 -- one more
-pub raised-more : (s : List ℤ) (start most k all m : ℕ) → (m < most + most → natAbs (getD s (start + k) (pos 0)) ≤ most)
+pub plus-most-more : (s : List ℤ) (start most k all m : ℕ) → (m < most + most → natAbs (getD s (start + k) (pos 0)) ≤ most)
     → (all < most + most → (j : ℕ) → j < k → natAbs (getD s (start + j) (pos 0)) ≤ most)
     → bitOr all m < most + most → (j : ℕ) → j < k + 1 → natAbs (getD s (start + j) (pos 0)) ≤ most
-raised-more s start most k all m f g h j l = ⊎-elim
+plus-most-more s start most k all m f g h j l = ⊎-elim
     (λ (q : j ≡ k). rw q (f (omega (arith, or-right all m))))
     (λ (q : j < k). g (omega (arith, or-left all m)) j q)
     (eq-or-lt-of-le (omega arith))

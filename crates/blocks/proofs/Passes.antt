@@ -9,7 +9,7 @@ use native.Mathlib.Omega.{arith}
 use lib.Dec.{eqb}
 use lib.IntN.{ℤ}
 use lib.ListN.{length, replicate, length-replicate, getD-replicate}
-use Rattle.whole.specs.Within.{EachWithin}
+use Rattle.whole.proofs.Within.{EachWithin}
 use Rattle.steps.proofs.Shapes.{Zeros}
 use Rattle.steps.proofs.Places.{Stays}
 use Rattle.dct.proofs.Dct.{dct-stays, dct-zeros}
@@ -18,8 +18,8 @@ use Rattle.adst.proofs.Adst.{adst-stays, adst-zeros}
 use Rattle.adst.proofs.Ranges.{adst-row, adst-column}
 use Rattle.wht.proofs.Wht.{wht-stays, wht-zeros}
 use Rattle.wht.proofs.Ranges.{wht-row, wht-column}
-use Rattle.blocks.specs.Block.{FirstWithin}
-use Rattle.blocks.specs.Inverse.{Pass, Dct, Adst, Wht, apply, lossy, rowPass, columnPass, Possible, Safe}
+use Rattle.blocks.specs.Inner.{FirstWithin, Possible, Safe}
+use Rattle.blocks.specs.Inverse.{Pass, Dct, Adst, Wht, apply, lossy, rowPass, columnPass}
 
 -- a transform of 2^n numbers that there is; the WHT at the pass's shift
 abbrev pub Valid : ℕ → Pass → ℕ → Type 0

@@ -8,15 +8,16 @@ use native.Mathlib.Omega.{arith}
 use lib.IntN.{ℤ, pos}
 use lib.ListN.{length, getD, replicate}
 use Rattle.whole.specs.Lists.{fill}
-use Rattle.whole.specs.Loops.{times}
+use Rattle.whole.specs.Inner.{times}
 use Rattle.whole.proofs.Loops.{times-none, times-more}
 use Rattle.whole.proofs.Within.{within-le}
 use Rattle.steps.proofs.Places.{Stays}
 use Rattle.steps.proofs.Shapes.{Zeros}
-use Rattle.blocks.specs.Block.{line, rows, columns, put, on, live, FirstWithin}
-use Rattle.blocks.specs.Inverse.{Pass, apply, Safe}
+use Rattle.blocks.specs.Block.{line, rows, columns}
+use Rattle.blocks.specs.Inner.{setLine, changeLine, live, FirstWithin, Safe}
+use Rattle.blocks.specs.Inverse.{Pass, apply}
 use Rattle.blocks.proofs.Places.{in-row, in-column}
-use Rattle.blocks.proofs.Lines.{zeros-at, line-length, line-at, line-past, fill-line, put-length, on-still}
+use Rattle.blocks.proofs.Lines.{zeros-at, line-length, line-at, line-past, fill-line, setLine-length, changeLine-still}
 use Rattle.blocks.proofs.Blocks.{rows-loop, row-to-come, columns-loop, column-to-come}
 use Rattle.blocks.proofs.Passes.{Valid, pass-stays, pass-zeros}
 use Rattle.blocks.proofs.Inverse.{side-most, row-safe, row-grown, column-safe, column-grown, zero-row}
@@ -25,12 +26,12 @@ use Rattle.blocks.proofs.Inverse.{side-most, row-safe, row-grown, colum
 pub record Job (p : Pass) (n n0 : ℕ) (r : ℤ → ℤ) (base : ℕ → ℕ) (step : ℕ) (s₀ g : List ℤ) : Type 0 where
   pub short : n0 ≤ 32
   pub inside : (i k : ℕ) → i < n0 → k < n0 → base i + k * step < length s₀
-  pub come : (i : ℕ) → i < n0 → line (base i) step n0 (times i (λ i. on (apply p n) r (base i) step n0) s₀) ≡ line (base i) step n0 s₀
+  pub come : (i : ℕ) → i < n0 → line (base i) step n0 (times i (λ i. changeLine (apply p n) r (base i) step n0) s₀) ≡ line (base i) step n0 s₀
   pub safe : (i : ℕ) → i < n0 → Safe p n (line (base i) step n0 s₀)
   pub grown : (i : ℕ) → i < n0 → FirstWithin (2 ^ 43) n0 (apply p n (line (base i) step n0 s₀))
   pub stays : (t : List ℤ) → Stays n0 t (apply p n t)
   pub zeros : (t : List ℤ) → Zeros n0 t → apply p n t ≡ t
-  pub whole : times n0 (λ i. on (apply p n) r (base i) step n0) s₀ ≡ g
+  pub whole : times n0 (λ i. changeLine (apply p n) r (base i) step n0) s₀ ≡ g
 
 -- all rows of a block within 2^31, and all columns of a block within 2^37
 pub rows-job : (p : Pass) (n : ℕ) (s₀ : List ℤ) → 2 ≤ n → n ≤ 5 → Valid 2 p n → 2 ^ n * 2 ^ n ≤ length s₀ → FirstWithin (2 ^ 31) (2 ^ n * 2 ^ n) s₀
@@ -62,7 +63,7 @@ columns-job p n r s₀ l h v room b = record {
 -- ---- the invariant: i lines are done; T is 32 long, and zeros past the line
 pub record Turn (p : Pass) (n n0 : ℕ) (r : ℤ → ℤ) (base : ℕ → ℕ) (step : ℕ) (s₀ : List ℤ) (s t : List ℤ) (i : ℕ) : Type 0 where
   pub count : i ≤ n0
-  pub done : s ≡ times i (λ i. on (apply p n) r (base i) step n0) s₀
+  pub done : s ≡ times i (λ i. changeLine (apply p n) r (base i) step n0) s₀
   pub long : length s ≡ length s₀
   pub wide : length t ≡ 32
   pub clean : (k : ℕ) → n0 ≤ k → getD t k (pos 0) ≡ pos 0
@@ -89,23 +90,23 @@ module _ {p : Pass} {n n0 : ℕ} {r : ℤ → ℤ} {base : ℕ → ℕ} {step : 
       let q : w ≡ apply p n (line (base i) step n0 s₀) = f ∙ ap (apply p n) (turn-line hi e) in
       record { each = λ k l. rw q (within-le (omega arith) (job .grown i hi .each k l)) }
 
-  pub turn-next : i < n0 → {u w v : List ℤ} → u ≡ fill n0 (λ k. getD s (base i + k * step) (pos 0)) t → w ≡ apply p n u → v ≡ put r (base i) step n0 w s
+  pub turn-next : i < n0 → {u w v : List ℤ} → u ≡ fill n0 (λ k. getD s (base i + k * step) (pos 0)) t → w ≡ apply p n u → v ≡ setLine r (base i) step n0 w s
       → Turn p n n0 r base step s₀ v w (i + 1)
-  unfolding on
+  unfolding changeLine
   turn-next hi {u} {w} {v} e f q =
       let made : u ≡ line (base i) step n0 s = e ∙ fill-line (base i) step n0 s t (job .short) (turn .wide) (turn .clean) in
       let stay : Stays n0 u w = rw f (job .stays u) in
       record {
         count = omega arith;
-        done = times-more _ i s₀ (turn .done) (q ∙ ap (λ (x : List ℤ). put r (base i) step n0 x s) (f ∙ ap (apply p n) made));
-        long = ap length q ∙ put-length r (base i) step n0 w s ∙ turn .long;
+        done = times-more _ i s₀ (turn .done) (q ∙ ap (λ (x : List ℤ). setLine r (base i) step n0 x s) (f ∙ ap (apply p n) made));
+        long = ap length q ∙ setLine-length r (base i) step n0 w s ∙ turn .long;
         wide = stay .long ∙ ap length made ∙ line-length (base i) step n0 s;
         clean = λ k l. stay .same k l ∙ ap (λ (x : List ℤ). getD x k (pos 0)) made ∙ line-past (base i) step n0 s k l;
       }
 
   -- at the end
   pub turn-done : n0 ≤ i → s ≡ g
-  turn-done l = turn .done ∙ ap (λ (k : ℕ). times k (λ i. on (apply p n) r (base i) step n0) s₀) (le-antisymm (turn .count) l) ∙ job .whole
+  turn-done l = turn .done ∙ ap (λ (k : ℕ). times k (λ i. changeLine (apply p n) r (base i) step n0) s₀) (le-antisymm (turn .count) l) ∙ job .whole
 
 -- a row of zeros is passed over
 pub turn-skip : {p : Pass} {n n0 : ℕ} {base : ℕ → ℕ} {s₀ g s t : List ℤ} {i : ℕ} → Job p n n0 (λ z. z) base 1 s₀ g → Turn p n n0 (λ z. z) base 1 s₀ s t i → i < n0
@@ -131,7 +132,7 @@ turn-dead {p} {n} {n0} {base} {s₀} {g} {s} {t} {i} job turn hi e =
     } in
     record {
       count = omega arith;
-      done = times-more _ i s₀ (turn .done) (sym (on-still (apply p n) (λ z. z) (base i) 1 n0 s (job .short) (λ k l. ap (λ (x : List ℤ). getD x k (pos 0)) (job .zeros u z))));
+      done = times-more _ i s₀ (turn .done) (sym (changeLine-still (apply p n) (λ z. z) (base i) 1 n0 s (job .short) (λ k l. ap (λ (x : List ℤ). getD x k (pos 0)) (job .zeros u z))));
       long = turn .long;
       wide = turn .wide;
       clean = turn .clean;

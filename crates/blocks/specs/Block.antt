@@ -1,14 +1,11 @@
 -- A block of n0 × n0 numbers, row by row, at the front of a list that may be longer: its lines, and what transforms of all rows or all columns make of it. Specification §8.7.2.
-use mathlib.Core.Bool.{Bool, cond}
+use mathlib.Core.Bool.{cond}
 use mathlib.Core.List.{List}
-use Prim.Native.Nat.{ℕ, _+_, _*_, _/_, _%_, _<_}
+use Prim.Native.Nat.{ℕ, _+_, _*_, _/_, _%_}
 use lib.Dec.{ltb}
-use lib.IntN.{ℤ, pos, natAbs}
-use lib.ListN.{length, getD, set, replicate}
+use lib.IntN.{ℤ, pos}
+use lib.ListN.{length, getD, replicate}
 use Rattle.whole.specs.Lists.{tabulate, fill}
-use Rattle.whole.specs.Loops.{times}
-use Rattle.whole.specs.Tests.{anyBelow}
-use Rattle.whole.specs.Within.{Within}
 
 -- the array T with n numbers of s, the first at `start` and each `step` past the one before, in front of zeros
 unfoldable pub line : ℕ → ℕ → ℕ → List ℤ → List ℤ
@@ -34,22 +31,6 @@ rows T n0 s = anew n0 (λ i j. getD (T (row n0 i s)) j (pos 0)) s
 unfoldable pub columns : (List ℤ → List ℤ) → (ℤ → ℤ) → ℕ → List ℤ → List ℤ
 columns T r n0 s = anew n0 (λ i j. r (getD (T (column n0 j s)) i (pos 0))) s
 
--- line by line, as the code goes: the first n numbers of t, each through r, to the places of a line
-unfoldable pub put : (ℤ → ℤ) → ℕ → ℕ → ℕ → List ℤ → List ℤ → List ℤ
-put r start step n t = times n (λ k s. set s (start + k * step) (r (getD t k (pos 0))))
-
--- a line replaced by what T and r make of it
-unfoldable pub on : (List ℤ → List ℤ) → (ℤ → ℤ) → ℕ → ℕ → ℕ → List ℤ → List ℤ
-on T r start step n s = put r start step n (T (line start step n s)) s
-
 -- the two passes: all rows through R, then all columns through C, each number then through r
 unfoldable pub rowsThenColumns : (List ℤ → List ℤ) → (List ℤ → List ℤ) → (ℤ → ℤ) → ℕ → List ℤ → List ℤ
 rowsThenColumns R C r n0 s = columns C r n0 (rows R n0 s)
-
--- of the n numbers from `start` on some is not 0
-unfoldable pub live : ℕ → ℕ → List ℤ → Bool
-live start n s = anyBelow (λ k. ltb 0 (natAbs (getD s (start + k) (pos 0)))) n
-
--- the first n numbers are within m
-pub record FirstWithin (m n : ℕ) (s : List ℤ) : Type 0 where
-  pub each : (k : ℕ) → k < n → Within m (getD s k (pos 0))

@@ -1,16 +1,13 @@
 -- The two-dimensional inverse transform. Specification §8.7.2: which transform each pass takes, the rounding, the two passes.
-use mathlib.Core.Path.{_≡_}
 use mathlib.Core.Bool.{Bool, true, false, cond, _||_}
 use mathlib.Core.List.{List}
-use Prim.Native.Nat.{ℕ, min, _+_, _^_, _≤_}
+use Prim.Native.Nat.{ℕ, min, _+_, _^_}
 use lib.Dec.{eqb}
 use lib.IntN.{ℤ}
 use Rattle.whole.specs.Round.{Round2}
-use Rattle.whole.specs.Steps.{Ok}
-use Rattle.steps.specs.Step.{step, Fine, FourWithin, turned}
-use Rattle.steps.specs.Step2.{step2, fresh, Fine2}
-use Rattle.dct.specs.Dct.{dctRow, dct}
-use Rattle.adst.specs.Adst.{adstSteps, adst}
+use Rattle.answers.specs.Sizes.{side}
+use Rattle.dct.specs.Dct.{dct}
+use Rattle.adst.specs.Adst.{adst}
 use Rattle.wht.specs.Wht.{wht}
 use Rattle.blocks.specs.Block.{rowsThenColumns}
 
@@ -19,7 +16,7 @@ pub data Pass : Type 0 where
   Dct Adst : Pass
   Wht : ℕ → Pass
 
--- a line of 2^n numbers through the transform of its pass
+-- a line of n0 numbers through the transform of its pass
 unfoldable pub apply : Pass → ℕ → List ℤ → List ℤ
 apply Dct n t = dct n t
 apply Adst n t = adst n t
@@ -47,23 +44,6 @@ unfoldable pub rounding : ℕ → Bool → ℤ → ℤ
 rounding n true z = z
 rounding n false z = Round2 z (bits n)
 
--- the residual of the block of 2^n by 2^n numbers at the front of the list, in its place
+-- the residual of the block of n0 by n0 numbers at the front of the list, in its place
 unfoldable pub inverse2d : ℕ → ℕ → Bool → List ℤ → List ℤ
-inverse2d n tx-type lossless = rowsThenColumns (apply (rowPass tx-type lossless) n) (apply (columnPass tx-type lossless) n) (rounding n lossless) (2 ^ n)
-
--- every number of the residual where only place 0 is live, of type 0
-unfoldable pub dcOnly : ℕ → ℤ → ℤ
-dcOnly n x = Round2 (turned (turned x)) (bits n)
-
--- the sizes and types that there are: 32 by 32 has type 0 alone, lossless is 4 by 4
-pub record Possible (n tx-type : ℕ) (lossless : Bool) : Type 0 where
-  pub least : 2 ≤ n
-  pub most : n ≤ 5
-  pub large : lossless ≡ false → n ≡ 5 → tx-type ≡ 0
-  pub small : lossless ≡ true → n ≡ 2
-
--- every step of the transform is within its range
-unfoldable pub Safe : Pass → ℕ → List ℤ → Type 0
-Safe Dct n t = Ok step (Fine (2 ^ 46)) (dctRow n) t
-Safe Adst n t = Ok step2 (Fine2 (2 ^ 46)) (adstSteps n) (fresh t)
-Safe (Wht shift) n t = FourWithin (2 ^ 46) t
+inverse2d n tx-type lossless = rowsThenColumns (apply (rowPass tx-type lossless) n) (apply (columnPass tx-type lossless) n) (rounding n lossless) (side n)

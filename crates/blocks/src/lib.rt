@@ -4,7 +4,7 @@ ghost use lib.IntN.{pos, natAbs};
 ghost use lib.ListN.{length, getD};
 ghost use Rattle.whole.specs.Lists.{fill};
 ghost use Rattle.whole.specs.Round.{Round2};
-ghost use Rattle.blocks.specs.Block.{put, live, FirstWithin};
+ghost use Rattle.blocks.specs.Inner.{setLine, live, FirstWithin};
 
 // The n numbers of s at start, start + step, .. into the first places of t.
 pub fn load(t: &mut [i64; 32], s: &[i64], start: usize, step: usize, n: usize)
@@ -19,7 +19,7 @@ pub fn load(t: &mut [i64; 32], s: &[i64], start: usize, step: usize, n: usize)
 // The first n numbers of t to these places of s.
 pub fn store(s: &mut [i64], t: &[i64; 32], start: usize, step: usize, n: usize)
     requires { ⌜ (n ≤ 32) × ((k : ℕ) → k < n → start + k * step < length (now s)) ⌝ }
-    ensures { λ _. ⌜ now (s .exit) ≡ put (λ z. z) start step n (now (t .entry)) (now (s .entry)) ⌝ }
+    ensures { λ _. ⌜ now (s .exit) ≡ setLine (λ z. z) start step n (now (t .entry)) (now (s .entry)) ⌝ }
 {
     for k in 0..n {
         s[start + k * step] = t[k];
@@ -29,7 +29,7 @@ pub fn store(s: &mut [i64], t: &[i64; 32], start: usize, step: usize, n: usize)
 // The same, each number rounded by `shift` bits.
 pub fn store_rounded(s: &mut [i64], t: &[i64; 32], start: usize, step: usize, n: usize, shift: u32)
     requires { ⌜ (n ≤ 32) × ((k : ℕ) → k < n → start + k * step < length (now s)) × (1 ≤ «shift») × («shift» ≤ 30) × FirstWithin (2 ^ 62) n (now t) ⌝ }
-    ensures { λ _. ⌜ now (s .exit) ≡ put (λ z. Round2 z «shift») start step n (now (t .entry)) (now (s .entry)) ⌝ }
+    ensures { λ _. ⌜ now (s .exit) ≡ setLine (λ z. Round2 z «shift») start step n (now (t .entry)) (now (s .entry)) ⌝ }
 {
     for k in 0..n {
         s[start + k * step] = primitives::round2(t[k], shift);
@@ -84,7 +84,7 @@ pub fn any_live_first(s: &[i64], start: usize, n: usize) -> bool
 }
 
 // x + most on 64 bits: a number below -most wraps to the top. All three forms are one addition to the compiler.
-fn raised(x: i64, most: u64) -> u64
+fn plus_most(x: i64, most: u64) -> u64
     requires { ⌜ most ≤ 2 ^ 61 ⌝ }
     ensures { λ r. ⌜ (r < most + most → natAbs x ≤ most) ⌝ }
 {
@@ -98,14 +98,14 @@ fn raised(x: i64, most: u64) -> u64
     x as u64 + most
 }
 
-// The n numbers from start on, raised and or-ed together. None is above the whole, so below 2 × most no magnitude is above most.
-pub fn all_raised(s: &[i64], start: usize, n: usize, most: u64) -> u64
+// The n numbers from start on, each plus most, or-ed together. None is above the whole, so below 2 × most no magnitude is above most.
+pub fn or_plus_most(s: &[i64], start: usize, n: usize, most: u64) -> u64
     requires { ⌜ (start + n ≤ length (now s)) × (most ≤ 2 ^ 61) ⌝ }
     ensures { λ r. ⌜ (r < most + most → (k : ℕ) → k < n → natAbs (getD (now (s .entry)) (start + k) (pos 0)) ≤ most) ⌝ }
 {
     let mut all = 0u64;
     for k in 0..n {
-        all = all | raised(s[start + k], most);
+        all = all | plus_most(s[start + k], most);
     }
     all
 }

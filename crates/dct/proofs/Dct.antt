@@ -12,10 +12,12 @@ use lib.Pow.{pow-pos}
 use lib.ListN.{getD, replicate}
 use Rattle.whole.specs.Round.{Round2}
 use Rattle.whole.specs.Lists.{fill, move}
-use Rattle.whole.specs.Steps.{run, each, when, _⨾_, Ok, Left}
-use Rattle.whole.proofs.Steps.{left-all, left-next}
+use Rattle.whole.specs.Steps.{run, each, when, _⨾_}
+use Rattle.whole.specs.Inner.{Ok}
+use Rattle.whole.proofs.Steps.{Left, left-all, left-next}
 use Rattle.primitives.specs.Brev.{Brev}
-use Rattle.steps.specs.Step.{Step, Bf, Move, step, turned}
+use Rattle.steps.specs.Step.{Step, Bf, Move, step}
+use Rattle.steps.specs.Inner.{turned}
 use Rattle.steps.proofs.Shapes.{Z, X, R, shape, Zeros, Alone, zeros-stay, alone-turned}
 use Rattle.steps.proofs.Places.{writes, every, Stays, steps-stay}
 use Rattle.dct.specs.Dct.{turn4a, turn4b, steps2, steps3, steps4, steps5, steps6, steps7, tailAt, tail, dctSteps, dctRow, dct}

@@ -5,12 +5,15 @@ use Prim.Native.Nat.{ℕ, _^_, _≤_}
 use lib.Dec.{T}
 use lib.IntN.{ℤ}
 use lib.ListN.{replicate}
-use Rattle.whole.specs.Within.{EachWithin}
+use Rattle.whole.proofs.Within.{EachWithin}
 use Rattle.whole.specs.Lists.{fill, move}
-use Rattle.whole.specs.Steps.{run, each, when, Ok, checks}
+use Rattle.whole.specs.Steps.{run, each, when}
+use Rattle.whole.specs.Inner.{Ok}
+use Rattle.whole.proofs.Steps.{checks}
 use Rattle.primitives.specs.Brev.{Brev}
 use Rattle.primitives.specs.Cosine.{Cos64, Sin64, cosAt}
-use Rattle.steps.specs.Step.{step, Fine}
+use Rattle.steps.specs.Step.{step}
+use Rattle.steps.specs.Inner.{Fine}
 use Rattle.steps.proofs.Bounds.{after, fine, passes, largest, grown, pass-sound}
 use Rattle.dct.specs.Dct.{steps2, steps3, steps4, steps5, steps6, steps7, tailAt, tail, dctSteps, dctRow, dct}
 use Rattle.dct.proofs.Dct.{two-to-five}

@@ -2,9 +2,11 @@ ghost use mathlib.Core.Path.{_≡_};
 ghost use mathlib.Core.Bool.{true};
 ghost use Prim.Native.Nat.{ℕ, _+_, _-_, _*_, _/_, _^_, _≤_, _<_};
 ghost use lib.IntN.{pos, _-ℤ_, _+ℤ_};
-ghost use Rattle.whole.specs.Steps.{run, each, Ok};
+ghost use Rattle.whole.specs.Steps.{run, each};
+ghost use Rattle.whole.specs.Inner.{Ok};
 ghost use Rattle.primitives.specs.Brev.{Brev};
-ghost use Rattle.steps.specs.Step.{Move, step, Fine};
+ghost use Rattle.steps.specs.Step.{Move, step};
+ghost use Rattle.steps.specs.Inner.{Fine};
 ghost use Rattle.dct.specs.Dct.{turn4a, turn4b, turn5a, turn5b, steps2, steps3, steps4, steps5, steps6, steps7, tail, dctSteps};
 
 // n0 = 2^n, the count of numbers.

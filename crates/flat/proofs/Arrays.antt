@@ -6,7 +6,7 @@ use lib.IntN.{ℤ}
 use lib.ListN.{length, getD}
 use Rattle.steps.specs.Step.{Step, A4, step}
 use Rattle.steps.specs.Step2.{Arrays, Step2, on, step2}
-use Rattle.adst.specs.Adst.{arrays}
+use Rattle.adst.specs.Inner.{arrays}
 use Rattle.flat.proofs.Straight.{Done, next}
 
 module _ {Fine : Step2 → Arrays → Type 0} {ss : List Step2} where

@@ -6,12 +6,12 @@ use native.Mathlib.Omega.{arith}
 use lib.Dec.{lit≤}
 use lib.IntN.{ℤ, pos, _+ℤ_, _-ℤ_, _*ℤ_}
 use Rattle.whole.proofs.Ring.{E, at, _⊕_, _⊖_, _⊗_, ring}
-use Rattle.whole.specs.Steps.{Ok}
+use Rattle.whole.specs.Inner.{Ok}
 use Rattle.whole.specs.Within.{Within}
 use Rattle.whole.proofs.Steps.{ok-here}
 use Rattle.whole.proofs.Within.{within-self, within-le, within-add, within-sub, within-mul}
-use Rattle.steps.specs.Step.{FourWithin}
-use Rattle.steps.specs.Step2.{step2, fresh, Fine2}
+use Rattle.steps.specs.Inner.{FourWithin, Fine2}
+use Rattle.steps.specs.Step2.{step2, fresh}
 use Rattle.adst.specs.Adst.{adstSteps}
 
 abbrev by : ℕ → E → E

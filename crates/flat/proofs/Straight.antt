@@ -4,8 +4,9 @@ use mathlib.Core.List.{List, [], _∷_, _++_}
 use Prim.Native.Nat.{ℕ, suc, _<_}
 use lib.ListN.{length, getD, drop}
 use lib.Seq.{drop-cons}
-use Rattle.whole.specs.Steps.{run, Ok, none, next as then, Left}
-use Rattle.whole.proofs.Steps.{run-join, ok-join, left-all, left-fine, left-next, left-none}
+use Rattle.whole.specs.Steps.{run}
+use Rattle.whole.specs.Inner.{Ok, none, next as then}
+use Rattle.whole.proofs.Steps.{Left, run-join, ok-join, left-all, left-fine, left-next, left-none}
 
 -- k steps of ss are done, from `start`, and `here` is reached
 pub record Done {A S : Type 0} (step : A → S → S) (Fine : A → S → Type 0) (ss : List A) (k : ℕ) : Type 0 where

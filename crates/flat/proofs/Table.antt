@@ -8,9 +8,8 @@ use lib.Dec.{T, leb, ltb, ltb→lt, eqb, eqb→eq}
 use lib.IntN.{ℤ, pos}
 use lib.ListN.{getD, set}
 use borrow.Author.Tests.{le-leb, lt-ltb}
-use Rattle.whole.specs.Tests.{both, allBelow}
+use Rattle.whole.proofs.Tests.{both, allBelow, below}
 use Rattle.whole.specs.Lists.{fill, move}
-use Rattle.whole.proofs.Tests.{below}
 use Rattle.primitives.specs.Brev.{Brev}
 use Rattle.primitives.proofs.Reversal.{brev-lt}
 use Rattle.steps.specs.Step.{Move, step}

@@ -1,13 +1,16 @@
 ghost use mathlib.Core.Path.{_≡_};
 ghost use Prim.Native.Nat.{ℕ, _+_, _^_, _≤_, _<_};
 ghost use lib.ListN.{length, getD};
-ghost use Rattle.whole.specs.Steps.{run, Ok};
+ghost use Rattle.whole.specs.Steps.{run};
+ghost use Rattle.whole.specs.Inner.{Ok};
 ghost use Rattle.whole.specs.Within.{Within};
 ghost use Rattle.primitives.specs.Rotations.{turnX, turnY};
-ghost use Rattle.steps.specs.Step.{Bf, Hd, Neg, Move, step, Fine};
-ghost use Rattle.steps.specs.Step2.{SB, SH, step2, fresh, Fine2};
+ghost use Rattle.steps.specs.Step.{Bf, Hd, Neg, Move, step};
+ghost use Rattle.steps.specs.Inner.{Fine, Fine2};
+ghost use Rattle.steps.specs.Step2.{SB, SH, step2, fresh};
 ghost use Rattle.dct.specs.Dct.{tail, dctRow, dct};
-ghost use Rattle.adst.specs.Adst.{arrays, adstIn, adstOut, adstSteps, adst};
+ghost use Rattle.adst.specs.Adst.{adstIn, adstOut, adstSteps, adst};
+ghost use Rattle.adst.specs.Inner.{arrays};
 
 // Entry 32 n + i is brev(n, i) for n of 2 to 5 and i below 2^n; the rest are zeros.
 const BREV: [usize; 192] = [

@@ -12,11 +12,11 @@ use lib.IntN.{ℤ, pos, natAbs, _*ℤ_}
 use lib.ListN.{length, getD, replicate, getD-replicate}
 use lib.Seq.{ext-getD}
 use lib.Signed.{quotZ}
-use Rattle.whole.specs.Within.{Within, EachWithin}
-use Rattle.whole.specs.Loops.{times}
+use Rattle.whole.specs.Within.{Within}
+use Rattle.whole.proofs.Within.{EachWithin, within-le, abs-bd}
+use Rattle.whole.specs.Inner.{times}
 use Rattle.whole.proofs.Lists.{length-tabulate, getD-tabulate}
 use Rattle.whole.proofs.Parts.{eq-parts, mul-P, mul-N, quot-P, quot-N}
-use Rattle.whole.proofs.Within.{within-le, abs-bd}
 use Rattle.answers.specs.Bad.{badDepth, anyBeyond}
 use Rattle.answers.specs.Limits.{WHT_LIMIT, codeable}
 use Rattle.answers.specs.declared.Answer.{Answer}
@@ -26,8 +26,9 @@ use Rattle.quant.specs.Places.{quantizerAt, dequantAll}
 use Rattle.quant.specs.Token.{dequant}
 use Rattle.quant.specs.declared.AcQuant.{AcQuant}
 use Rattle.quant.specs.declared.DcQuant.{DcQuant}
-use Rattle.steps.specs.Step.{FourWithin}
-use Rattle.blocks.specs.Block.{line, row, column, rows, columns, on, rowsThenColumns, FirstWithin}
+use Rattle.steps.specs.Inner.{FourWithin}
+use Rattle.blocks.specs.Block.{line, row, column, rows, columns, rowsThenColumns}
+use Rattle.blocks.specs.Inner.{changeLine, FirstWithin}
 use Rattle.blocks.proofs.Lines.{line-length, line-at, line-past, line-same}
 use Rattle.blocks.proofs.Blocks.{rows-length, rows-at, row-to-come, columns-length, columns-at, column-to-come}
 use Rattle.blocks.proofs.Places.{le-or-lt}
@@ -185,10 +186,10 @@ four-fine m t p h =
     (w 0 (omega arith), w 1 (omega arith), w 2 (omega arith), w 3 (omega arith))
 
 module _ (m : ℕ) (s : List ℤ) (p : m ≤ 2 ^ 46) (room : 16 ≤ length s) (h : FirstWithin m 16 s) where
-  pub column-fine : (j : ℕ) (u : List ℤ) → j < 4 → u ≡ times j (λ j. on (wht 0) (λ z. z) j 4 4) s → FourWithin (2 ^ 46) (column 4 j u)
+  pub column-fine : (j : ℕ) (u : List ℤ) → j < 4 → u ≡ times j (λ j. changeLine (wht 0) (λ z. z) j 4 4) s → FourWithin (2 ^ 46) (column 4 j u)
   column-fine j u l e = rw (e, column-to-come (wht 0) (λ z. z) 4 s j l) (four-fine m (column 4 j s) p (column-within m s room h j l))
 
-  pub row-fine : (i : ℕ) (u : List ℤ) → i < 4 → u ≡ times i (λ i. on (wht 0) (λ z. z) (i * 4) 1 4) s → FourWithin (2 ^ 46) (row 4 i u)
+  pub row-fine : (i : ℕ) (u : List ℤ) → i < 4 → u ≡ times i (λ i. changeLine (wht 0) (λ z. z) (i * 4) 1 4) s → FourWithin (2 ^ 46) (row 4 i u)
   row-fine i u l e = rw (e, row-to-come (wht 0) 4 s i l) (four-fine m (row 4 i s) p (row-within m s room h i l))
 
 -- ---- the call

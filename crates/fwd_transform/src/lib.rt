@@ -20,8 +20,9 @@ ghost use lib.ListN.{length, getD};
 ghost use Rattle.answers.specs.Answers.{number};
 ghost use Rattle.answers.specs.Bad.{badQuantizer};
 ghost use Rattle.answers.specs.Limits.{codeable};
-ghost use Rattle.blocks.specs.Block.{line, rows, columns, on, FirstWithin};
-ghost use Rattle.steps.specs.Step.{FourWithin};
+ghost use Rattle.blocks.specs.Block.{line, rows, columns};
+ghost use Rattle.blocks.specs.Inner.{changeLine, FirstWithin};
+ghost use Rattle.steps.specs.Inner.{FourWithin};
 ghost use Rattle.wht.specs.Wht.{wht};
 ghost use Rattle.quant.specs.Places.{quantizerAt};
 ghost use Rattle.quant.specs.Token.{quantize};
@@ -45,7 +46,7 @@ fn check_wht(block: &[i64]) -> Answer
 // The WHT of the four numbers at start, start + step, ..
 fn wht_line(block: &mut [i64], start: usize, step: usize)
     requires { ⌜ ((k : ℕ) → k < 4 → start + k * step < length (now block)) × FourWithin (2 ^ 46) (line start step 4 (now block)) ⌝ }
-    ensures { λ _. ⌜ now (block .exit) ≡ on (wht 0) (λ z. z) start step 4 (now (block .entry)) ⌝ }
+    ensures { λ _. ⌜ now (block .exit) ≡ changeLine (wht 0) (λ z. z) start step 4 (now (block .entry)) ⌝ }
 {
     let mut t = [0i64; 32];
     load(&mut t, block, start, step, 4);

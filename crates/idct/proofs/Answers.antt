@@ -1,6 +1,6 @@
--- The drivers' table: what a passed test says, the answer from its parts, and that two results that meet the promise coincide.
+-- The drivers' table: what a passed test says, and the answer from its parts.
 use mathlib.Core.Path.{_≡_, refl, sym, ap, _∙_}
-use mathlib.Core.Bool.{Bool, true, false, cond, not}
+use mathlib.Core.Bool.{Bool, true, false, cond}
 use mathlib.Core.List.{List}
 use Prim.Native.Nat.{ℕ, suc, _-_, _^_, _≤_}
 use native.Mathlib.Nat.{mul-le-mul}
@@ -17,22 +17,18 @@ use Rattle.answers.specs.declared.Answer.the-variants.{Done, Coefficient}
 use Rattle.answers.specs.Answers.{number}
 use Rattle.answers.specs.Bad.{badLossless, badTxType, anyBeyond}
 use Rattle.answers.specs.Limits.{COEF_LIMIT}
-use Rattle.answers.proofs.Numbers.{number-injective}
 use Rattle.answers.proofs.Passed.{none-within}
 use Rattle.dct.proofs.Dct.{two-to-five}
-use Rattle.blocks.specs.Block.{live, FirstWithin}
-use Rattle.blocks.specs.Inverse.{inverse2d, dcOnly, Possible}
+use Rattle.blocks.specs.Inner.{live, FirstWithin, dcValue, Possible}
+use Rattle.blocks.specs.Inverse.{inverse2d}
 use Rattle.blocks.proofs.Inverse.{dc-only, filled}
-use Rattle.answers.specs.Sizes.{area}
-use Rattle.idct.specs.Driver.{Input, badSide, badRoom, shapeOf, answerOf, blockAfter, Driven, Tried, onlyDc}
+use Rattle.answers.specs.Sizes.{side, area}
+use Rattle.idct.specs.Driver.{Input, badSide, badRoom, answerOf, blockAfter, Driven, onlyDc}
+use Rattle.idct.specs.Inner.{shapeOf, Tried}
 use Rattle.idct.proofs.Beyond.{first-beyond}
 
 never : {A : Type 0} → true ≡ false → A
 never h = absurd (let z : _≡_ {A = ℕ} 0 1 = cc in omega arith)
-
--- ---- two results that meet the promise coincide
-pub coincide : (u : Input) (a b : Answer) (l m : List ℤ) → Driven u a l → Driven u b m → (a ≡ b) × (l ≡ m)
-coincide u a b l m p q = (number-injective a b (p .answered ∙ sym (q .answered)), p .written ∙ sym (q .written))
 
 -- ---- n is 2 to 5
 pub side-range : (n : ℕ) → badSide n ≡ false → (2 ≤ n) × (n ≤ 5)
@@ -88,10 +84,6 @@ possible count n tx-type lossless h =
     )
 
 -- the type is not looked at when lossless
-pub any-type : (n tx-type : ℕ) (s : List ℤ) → inverse2d n 0 true s ≡ inverse2d n tx-type true s
-unfolding inverse2d
-any-type n tx-type s = refl
-
 pub any-tried : (n tx-type : ℕ) (s : List ℤ) {made : Bool} {after : List ℤ} → Tried (record { block = s; n = n; tx-type = 0; lossless = true }) made after
     → Tried (record { block = s; n = n; tx-type = tx-type; lossless = true }) made after
 unfolding inverse2d
@@ -172,8 +164,11 @@ module _ (s : List ℤ) (n tx-type : ℕ) (lossless : Bool) (e : shapeOf (length
       go true q = absurd (h (possible (length s) n tx-type lossless e .0 .small q))
       go false q = q
 
-  pub large-fine : Possible n tx-type false × (area n ≤ length s)
-  large-fine = rw lossy-is at (possible (length s) n tx-type lossless e)
+  pub large-fine : (3 ≤ n) × Possible n tx-type false × (area n ≤ length s)
+  large-fine = let p = possible (length s) n tx-type lossless e in (more (p .0 .least), rw lossy-is at (p .0), p .1)
+    where
+      more : 2 ≤ n → 3 ≤ n
+      more l = omega arith
 
   pub as-lossy : {b : Bool} {after : List ℤ} → Tried (record { block = s; n = n; tx-type = tx-type; lossless = false }) b after
       → Tried (record { block = s; n = n; tx-type = tx-type; lossless = lossless }) b after
@@ -207,7 +202,7 @@ module _ (n : ℕ) (block : List ℤ) (l : 2 ≤ n) (h : n ≤ 5) (room : area n
   pub dc-beyond : anyBeyond COEF_LIMIT (area n) block ≡ ltb COEF_LIMIT (natAbs (getD block 0 (pos 0)))
   dc-beyond = first-beyond COEF_LIMIT (area n) block (area-some n) dead
 
-  pub dc-written : {tx-type : ℕ} {after : List ℤ} → tx-type ≡ 0 → after ≡ fill (area n) (λ k. dcOnly n (getD block 0 (pos 0))) block → after ≡ inverse2d n tx-type false block
+  pub dc-written : {tx-type : ℕ} {after : List ℤ} → tx-type ≡ 0 → after ≡ fill (area n) (λ k. dcValue n (getD block 0 (pos 0))) block → after ≡ inverse2d n tx-type false block
   dc-written q e =
-      e ∙ filled (2 ^ n) (dcOnly n (getD block 0 (pos 0))) block room ∙ sym (dc-only n l h block room dead)
+      e ∙ filled (side n) (dcValue n (getD block 0 (pos 0))) block room ∙ sym (dc-only n l h block room dead)
       ∙ ap (λ (tx-type : ℕ). inverse2d n tx-type false block) (sym q)

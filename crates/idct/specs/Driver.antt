@@ -1,8 +1,8 @@
 -- The promise of the two-dimensional drivers: their answer, and the block afterwards.
 use mathlib.Core.Path.{_≡_}
-use mathlib.Core.Bool.{Bool, true, false, cond, not, _&&_, _||_}
+use mathlib.Core.Bool.{Bool, cond, not, _&&_, _||_}
 use mathlib.Core.List.{List, [], _∷_}
-use Prim.Native.Nat.{ℕ, _-_, _*_, _^_}
+use Prim.Native.Nat.{ℕ, _-_}
 use lib.Dec.{ltb, eqb}
 use lib.IntN.{ℤ}
 use lib.ListN.{length}
@@ -11,7 +11,7 @@ use Rattle.answers.specs.Answers.{number, lowest}
 use Rattle.answers.specs.Limits.{COEF_LIMIT}
 use Rattle.answers.specs.Sizes.{area}
 use Rattle.answers.specs.Bad.{badLossless, badTxType, anyBeyond}
-use Rattle.blocks.specs.Block.{live}
+use Rattle.blocks.specs.Inner.{live}
 use Rattle.blocks.specs.Inverse.{inverse2d}
 
 -- what a driver is given
@@ -28,11 +28,6 @@ badSide n = ltb n 2 || ltb 5 n
 -- 6: fewer numbers than the block has
 abbrev pub badRoom : ℕ → ℕ → Bool
 badRoom count n = ltb count (area n)
-
--- 2, 3, 4 and 6: the tests before any number of the block is read; the size number is n − 2
-unfoldable pub shapeOf : ℕ → ℕ → ℕ → Bool → ℕ
-shapeOf count n tx-type lossless =
-    lowest ((2, badSide n) ∷ (3, badLossless lossless (n - 2)) ∷ (4, badTxType lossless (n - 2) tx-type) ∷ (6, badRoom count n) ∷ [])
 
 -- the answer: 9 where a number of the block is beyond its limit
 unfoldable pub answerOf : Input → ℕ
@@ -55,12 +50,6 @@ blockAfter u = cond (eqb (answerOf u) 0) (inverse2d (u .n) (u .tx-type) (u .loss
 pub record Driven (u : Input) (answer : Answer) (after : List ℤ) : Type 0 where
   pub answered : number answer ≡ answerOf u
   pub written : after ≡ blockAfter u
-
--- what the fast engine comes to on a block of a size and type that there are, and with room: the residual, or nothing done
-pub record Tried (u : Input) (made : Bool) (after : List ℤ) : Type 0 where
-  pub under : made ≡ true → anyBeyond COEF_LIMIT (area (u .n)) (u .block) ≡ false
-  pub written : made ≡ true → after ≡ inverse2d (u .n) (u .tx-type) (u .lossless) (u .block)
-  pub left : made ≡ false → after ≡ u .block
 
 -- the type is 0, and of `count` numbers only the first is live
 unfoldable pub onlyDc : ℕ → ℕ → List ℤ → Bool

@@ -9,9 +9,12 @@ ghost use Rattle.whole.specs.Round.{Round2};
 ghost use Rattle.whole.specs.Within.{Within};
 ghost use Rattle.answers.specs.Bad.{anyBeyond};
 ghost use Rattle.answers.specs.Limits.{COEF_LIMIT};
-ghost use Rattle.blocks.specs.Block.{rows, columns, live, FirstWithin};
-ghost use Rattle.blocks.specs.Inverse.{Dct, Wht, apply, lossy, inverse2d, dcOnly, Possible, Safe};
-ghost use Rattle.idct.specs.Driver.{onlyDc, Tried};
+ghost use Rattle.answers.specs.Sizes.{area};
+ghost use Rattle.blocks.specs.Block.{rows, columns};
+ghost use Rattle.blocks.specs.Inner.{live, FirstWithin, dcValue, Possible, Safe};
+ghost use Rattle.blocks.specs.Inverse.{Dct, Wht, apply, lossy, inverse2d};
+ghost use Rattle.idct.specs.Driver.{onlyDc};
+ghost use Rattle.idct.specs.Inner.{Tried};
 
 // Sizes apart: their numbers are literals, so that the loops unroll.
 
@@ -230,17 +233,12 @@ fn passes5(block: &mut [i64])
     columns5(block);
 }
 
-// Both passes, whatever the block holds.
-pub fn both_passes(block: &mut [i64], n: u32, tx_type: u8, lossless: bool)
-    requires { ⌜ Possible n «tx_type» lossless × (2 ^ n * 2 ^ n ≤ length (now block)) × FirstWithin (2 ^ 31) (2 ^ n * 2 ^ n) (now block) ⌝ }
-    ensures { λ _. ⌜ now (block .exit) ≡ inverse2d n «tx_type» lossless (now (block .entry)) ⌝ }
+// Both passes of a block of 8 by 8 or more, whatever it holds.
+pub fn both_passes(block: &mut [i64], n: u32, tx_type: u8)
+    requires { ⌜ (3 ≤ n) × Possible n «tx_type» false × (area n ≤ length (now block)) × FirstWithin (2 ^ 31) (area n) (now block) ⌝ }
+    ensures { λ _. ⌜ now (block .exit) ≡ inverse2d n «tx_type» false (now (block .entry)) ⌝ }
 {
-    if lossless {
-        wht_passes(block);
-        return;
-    }
     match n {
-        2 => passes2(block, tx_type),
         3 => passes3(block, tx_type),
         4 => passes4(block, tx_type),
         _ => passes5(block),
@@ -259,7 +257,7 @@ fn surely_within(block: &[i64], count: usize) -> bool
     requires { ⌜ count ≤ length (now block) ⌝ }
     ensures { λ r. ⌜ (r ≡ true → anyBeyond COEF_LIMIT count (now (block .entry)) ≡ false) ⌝ }
 {
-    blocks::all_raised(block, 0, count, answers::COEF_LIMIT) < 2 * answers::COEF_LIMIT
+    blocks::or_plus_most(block, 0, count, answers::COEF_LIMIT) < 2 * answers::COEF_LIMIT
 }
 
 // Whether the type is 0 and only place 0 of the `count` numbers is live.
@@ -276,7 +274,7 @@ fn only_dc(block: &[i64], count: usize, tx_type: u8) -> bool
 // The one number that place 0 gives everywhere; 11585 is cos64(16).
 pub fn dc_value(x: i64, n: u32) -> i64
     requires { ⌜ (2 ≤ n) × (n ≤ 5) × Within (2 ^ 31) x ⌝ }
-    ensures { λ r. ⌜ r ≡ dcOnly n x ⌝ }
+    ensures { λ r. ⌜ r ≡ dcValue n x ⌝ }
 {
     let row = primitives::round2(x * 11585, 14);
     let col = primitives::round2(row * 11585, 14);
@@ -295,7 +293,7 @@ fn fill_first(block: &mut [i64], count: usize, v: i64)
 // The residual where only place 0 is live, of type 0.
 fn dc_fill(block: &mut [i64], n: u32, count: usize)
     requires { ⌜ (2 ≤ n) × (n ≤ 5) × (1 ≤ count) × (count ≤ length (now block)) × Within (2 ^ 31) (getD (now block) 0 (pos 0)) ⌝ }
-    ensures { λ _. ⌜ now (block .exit) ≡ fill count (λ k. dcOnly n (getD (now (block .entry)) 0 (pos 0))) (now (block .entry)) ⌝ }
+    ensures { λ _. ⌜ now (block .exit) ≡ fill count (λ k. dcValue n (getD (now (block .entry)) 0 (pos 0))) (now (block .entry)) ⌝ }
 {
     let v = dc_value(block[0], n);
     fill_first(block, count, v);
@@ -317,12 +315,12 @@ pub fn inverse4(block: &mut [i64], tx_type: u8)
 
 // Each of the following makes the residual and says true, or leaves the block and says false: a number is at the limit or beyond it.
 
-fn wht_tried(block: &mut [i64]) -> bool
+fn try_wht4(block: &mut [i64]) -> bool
     requires { ⌜ 16 ≤ length (now block) ⌝ }
     ensures { λ r. ⌜ Tried (record { block = now (block .entry); n = 2; tx-type = 0; lossless = true }) r (now (block .exit)) ⌝ }
 {
-    let first = blocks::all_raised(block, 0, 4, answers::COEF_LIMIT);
-    let rest = blocks::all_raised(block, 4, 12, answers::COEF_LIMIT);
+    let first = blocks::or_plus_most(block, 0, 4, answers::COEF_LIMIT);
+    let rest = blocks::or_plus_most(block, 4, 12, answers::COEF_LIMIT);
     if 2 * answers::COEF_LIMIT <= (first | rest) {
         return false;
     }
@@ -339,7 +337,7 @@ fn wht_tried(block: &mut [i64]) -> bool
     true
 }
 
-fn tried2(block: &mut [i64], tx_type: u8) -> bool
+fn try_lossy4(block: &mut [i64], tx_type: u8) -> bool
     requires { ⌜ 16 ≤ length (now block) ⌝ }
     ensures { λ r. ⌜ Tried (record { block = now (block .entry); n = 2; tx-type = «tx_type»; lossless = false }) r (now (block .exit)) ⌝ }
 {
@@ -351,19 +349,19 @@ fn tried2(block: &mut [i64], tx_type: u8) -> bool
 }
 
 // 4 by 4.
-pub fn tried_small(block: &mut [i64], tx_type: u8, lossless: bool) -> bool
+pub fn try_4(block: &mut [i64], tx_type: u8, lossless: bool) -> bool
     requires { ⌜ 16 ≤ length (now block) ⌝ }
     ensures { λ r. ⌜ Tried (record { block = now (block .entry); n = 2; tx-type = «tx_type»; lossless = lossless }) r (now (block .exit)) ⌝ }
 {
     if lossless {
-        return wht_tried(block);
+        return try_wht4(block);
     }
-    tried2(block, tx_type)
+    try_lossy4(block, tx_type)
 }
 
-// The larger sizes.
-pub fn tried_large(block: &mut [i64], n: u32, tx_type: u8) -> bool
-    requires { ⌜ Possible n «tx_type» false × (2 ^ n * 2 ^ n ≤ length (now block)) ⌝ }
+// 8 by 8 and more.
+pub fn try_larger(block: &mut [i64], n: u32, tx_type: u8) -> bool
+    requires { ⌜ (3 ≤ n) × Possible n «tx_type» false × (area n ≤ length (now block)) ⌝ }
     ensures { λ r. ⌜ Tried (record { block = now (block .entry); n = n; tx-type = «tx_type»; lossless = false }) r (now (block .exit)) ⌝ }
 {
     let n0 = crate::side(n);
@@ -377,6 +375,6 @@ pub fn tried_large(block: &mut [i64], n: u32, tx_type: u8) -> bool
     if !surely_within(block, n0 * n0) {
         return false;
     }
-    both_passes(block, n, tx_type, false);
+    both_passes(block, n, tx_type);
     true
 }

@@ -1,11 +1,13 @@
 use answers::Answer;
 ghost use mathlib.Core.Path.{_≡_};
 ghost use mathlib.Core.Bool.{_||_};
-ghost use Prim.Native.Nat.{_*_, _^_, _≤_};
+ghost use Prim.Native.Nat.{_*_, _≤_};
 ghost use lib.Dec.{eqb};
 ghost use Rattle.answers.specs.Answers.{number};
+ghost use Rattle.answers.specs.Sizes.{side};
 ghost use Rattle.blocks.specs.Inverse.{bits};
-ghost use Rattle.idct.specs.Driver.{badSide, shapeOf, Driven};
+ghost use Rattle.idct.specs.Driver.{badSide, Driven};
+ghost use Rattle.idct.specs.Inner.{shapeOf};
 
 // The drivers' engines: as the specification goes, and the fast one.
 pub mod fast;
@@ -24,7 +26,7 @@ fn bad_side(n: u32) -> bool
 // Numbers in a line.
 fn side(n: u32) -> usize
     requires { ⌜ (2 ≤ n) × (n ≤ 5) ⌝ }
-    ensures { λ r. ⌜ (r ≡ 2 ^ n) × (r ≤ 32) ⌝ }
+    ensures { λ r. ⌜ (r ≡ side n) × (r ≤ 32) ⌝ }
 {
     match n {
         2 => 4,
@@ -116,7 +118,7 @@ fn small(block: &mut [i64], tx_type: u8, lossless: bool) -> Answer
     if answers::code(answer) != 0 {
         return answer;
     }
-    if fast::tried_small(block, tx_type, lossless) {
+    if fast::try_4(block, tx_type, lossless) {
         return Answer::Done;
     }
     inverse_transform_2d_reference(block, 2, tx_type, lossless)
@@ -133,7 +135,7 @@ pub fn inverse_transform_2d(block: &mut [i64], n: u32, tx_type: u8, lossless: bo
     if answers::code(answer) != 0 {
         return answer;
     }
-    if fast::tried_large(block, n, tx_type) {
+    if fast::try_larger(block, n, tx_type) {
         return Answer::Done;
     }
     inverse_transform_2d_reference(block, n, tx_type, lossless)

@@ -2,8 +2,10 @@ ghost use mathlib.Core.Path.{_≡_};
 ghost use mathlib.Core.Bool.{false, cond};
 ghost use Prim.Native.Nat.{ℕ, _+_, _*_, _^_, _≤_, _<_};
 ghost use lib.ListN.{length};
-ghost use Rattle.blocks.specs.Block.{rows, columns, put, FirstWithin};
-ghost use Rattle.blocks.specs.Inverse.{Wht, apply, lossy, rowPass, columnPass, rounding, Possible, Safe};
+ghost use Rattle.answers.specs.Sizes.{side, area};
+ghost use Rattle.blocks.specs.Block.{rows, columns};
+ghost use Rattle.blocks.specs.Inner.{setLine, FirstWithin, Possible, Safe};
+ghost use Rattle.blocks.specs.Inverse.{Wht, apply, lossy, rowPass, columnPass, rounding};
 
 // DCT of 2^n numbers, or ADST.
 fn dct_or_adst(t: &mut [i64; 32], n: u32, use_dct: bool)
@@ -33,8 +35,8 @@ fn apply_1d(t: &mut [i64; 32], n: u32, use_dct: bool, lossless: bool, shift: u32
 
 // All rows.
 pub fn rows(block: &mut [i64], n: u32, tx_type: u8, lossless: bool)
-    requires { ⌜ Possible n «tx_type» lossless × (2 ^ n * 2 ^ n ≤ length (now block)) × FirstWithin (2 ^ 31) (2 ^ n * 2 ^ n) (now block) ⌝ }
-    ensures { λ _. ⌜ now (block .exit) ≡ rows (apply (rowPass «tx_type» lossless) n) (2 ^ n) (now (block .entry)) ⌝ }
+    requires { ⌜ Possible n «tx_type» lossless × (area n ≤ length (now block)) × FirstWithin (2 ^ 31) (area n) (now block) ⌝ }
+    ensures { λ _. ⌜ now (block .exit) ≡ rows (apply (rowPass «tx_type» lossless) n) (side n) (now (block .entry)) ⌝ }
 {
     let n0 = crate::side(n);
     let row_dct = crate::row_dct(tx_type);
@@ -48,8 +50,8 @@ pub fn rows(block: &mut [i64], n: u32, tx_type: u8, lossless: bool)
 
 // Column j from t: rounded, unless lossless.
 fn store_column(block: &mut [i64], t: &[i64; 32], j: usize, n: u32, lossless: bool)
-    requires { ⌜ (2 ≤ n) × (n ≤ 5) × ((k : ℕ) → k < 2 ^ n → j + k * 2 ^ n < length (now block)) × FirstWithin (2 ^ 62) (2 ^ n) (now t) ⌝ }
-    ensures { λ _. ⌜ now (block .exit) ≡ put (rounding n lossless) j (2 ^ n) (2 ^ n) (now (t .entry)) (now (block .entry)) ⌝ }
+    requires { ⌜ (2 ≤ n) × (n ≤ 5) × ((k : ℕ) → k < side n → j + k * side n < length (now block)) × FirstWithin (2 ^ 62) (side n) (now t) ⌝ }
+    ensures { λ _. ⌜ now (block .exit) ≡ setLine (rounding n lossless) j (side n) (side n) (now (t .entry)) (now (block .entry)) ⌝ }
 {
     let n0 = crate::side(n);
     if lossless {
@@ -61,8 +63,8 @@ fn store_column(block: &mut [i64], t: &[i64; 32], j: usize, n: u32, lossless: bo
 
 // All columns.
 pub fn columns(block: &mut [i64], n: u32, tx_type: u8, lossless: bool)
-    requires { ⌜ Possible n «tx_type» lossless × (2 ^ n * 2 ^ n ≤ length (now block)) × FirstWithin (2 ^ 37) (2 ^ n * 2 ^ n) (now block) ⌝ }
-    ensures { λ _. ⌜ now (block .exit) ≡ columns (apply (columnPass «tx_type» lossless) n) (rounding n lossless) (2 ^ n) (now (block .entry)) ⌝ }
+    requires { ⌜ Possible n «tx_type» lossless × (area n ≤ length (now block)) × FirstWithin (2 ^ 37) (area n) (now block) ⌝ }
+    ensures { λ _. ⌜ now (block .exit) ≡ columns (apply (columnPass «tx_type» lossless) n) (rounding n lossless) (side n) (now (block .entry)) ⌝ }
 {
     let n0 = crate::side(n);
     let col_dct = crate::column_dct(tx_type);

@@ -25,7 +25,8 @@ use Rattle.quant.specs.declared.DcQuant.{DcQuant}
 use Rattle.quant.specs.declared.AcQuant.{AcQuant}
 use Rattle.quant.specs.Places.{quantizerAt, dequantAll}
 use Rattle.quant.specs.Token.{dequant}
-use Rattle.blocks.specs.Block.{rowsThenColumns, FirstWithin}
+use Rattle.blocks.specs.Block.{rowsThenColumns}
+use Rattle.blocks.specs.Inner.{FirstWithin}
 use Rattle.blocks.proofs.Places.{by-place}
 use Rattle.blocks.specs.Inverse.{inverse2d, apply, rounding, Wht}
 use Rattle.wht.specs.Wht.{wht}

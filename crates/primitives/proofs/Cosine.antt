@@ -11,11 +11,11 @@ use lib.ListN.{getD}
 use borrow.Author.Tests.{le-leb, lt-leb, lt-ltb, le-ltb, eq-eqb, ne-eqb}
 use Rattle.whole.specs.Parts.{P, N}
 use Rattle.whole.specs.Within.{Within}
-use Rattle.whole.specs.Tests.{both, allBelow}
+use Rattle.whole.proofs.Tests.{both, allBelow, below, b₁, b₂}
 use Rattle.whole.proofs.Parts.{sum-parts, eq-parts, neg-P, neg-N}
-use Rattle.whole.proofs.Tests.{below, b₁, b₂}
 use Rattle.whole.proofs.Within.{within-neg, within-cond, table-within}
-use Rattle.primitives.specs.Cosine.{cos64Lookup, modulo, cosAt, Cos64, Sin64, wrap32}
+use Rattle.primitives.specs.Cosine.{cos64Lookup, modulo, cosAt, Cos64, Sin64}
+use Rattle.primitives.specs.Inner.{wrap32}
 
 -- ---- the remainder
 -- z is its remainder and a multiple of m, which is qP m z − qN m z

@@ -2,7 +2,7 @@
 use mathlib.Core.Bool.{cond}
 use mathlib.Core.List.{List, [], _∷_}
 use Prim.Native.Nat.{ℕ, _-_, _%_}
-use lib.Dec.{leb, ltb}
+use lib.Dec.{leb}
 use lib.IntN.{ℤ, pos, negsuc, negℤ, _-ℤ_}
 use lib.ListN.{getD}
 
@@ -32,7 +32,3 @@ Cos64 angle = cosAt (modulo 128 angle)
 -- sin64(angle) = cos64(angle - 32)
 unfoldable pub Sin64 : ℤ → ℤ
 Sin64 angle = Cos64 (angle -ℤ pos 32)
-
--- the i32 that differs from z by a multiple of 2^32
-unfoldable pub wrap32 : ℤ → ℤ
-wrap32 z = cond (ltb (modulo 4294967296 z) 2147483648) (pos (modulo 4294967296 z)) (negsuc (4294967295 - modulo 4294967296 z))

@@ -1,4 +1,4 @@
 pub mod Cosine
 pub mod Brev
 pub mod Rotations
-pub mod Growth
+pub mod Inner

@@ -1,5 +1,4 @@
 -- The document's B, H, SB and SH over the arrays T and S. Specification §8.7.1.1.
-use mathlib.Core.Path.{_≡_}
 use mathlib.Core.Bool.{Bool, true, false}
 use mathlib.Core.List.{List}
 use Prim.Native.Nat.{ℕ}
@@ -17,16 +16,16 @@ unfoldable pub turnY : ℤ → ℤ → ℤ → ℤ
 turnY p q angle = p *ℤ Sin64 angle +ℤ q *ℤ Cos64 angle
 
 -- x to place a and y to place b; flip exchanges the two
-unfoldable pub put : List ℤ → ℕ → ℕ → ℤ → ℤ → Bool → List ℤ
-put t a b x y false = set (set t a x) b y
-put t a b x y true = set (set t a y) b x
+unfoldable pub setPair : List ℤ → ℕ → ℕ → ℤ → ℤ → Bool → List ℤ
+setPair t a b x y false = set (set t a x) b y
+setPair t a b x y true = set (set t a y) b x
 
 -- B(a, b, angle, flip)
 unfoldable pub applyB : List ℤ → ℕ → ℕ → ℤ → Bool → List ℤ
 applyB t a b angle flip =
     let p = getD t a (pos 0) in
     let q = getD t b (pos 0) in
-    put t a b (Round2 (turnX p q angle) 14) (Round2 (turnY p q angle) 14) flip
+    setPair t a b (Round2 (turnX p q angle) 14) (Round2 (turnY p q angle) 14) flip
 
 -- H(a, b, flip); flipped it is H(b, a, 0)
 unfoldable pub applyH : List ℤ → ℕ → ℕ → Bool → List ℤ
@@ -38,7 +37,7 @@ unfoldable pub applySB : List ℤ → List ℤ → ℕ → ℕ → ℤ → Bool 
 applySB t s a b angle flip =
     let p = getD t a (pos 0) in
     let q = getD t b (pos 0) in
-    put s a b (turnX p q angle) (turnY p q angle) flip
+    setPair s a b (turnX p q angle) (turnY p q angle) flip
 
 -- SH(a, b): out of s into t
 unfoldable pub applySH : List ℤ → List ℤ → ℕ → ℕ → List ℤ
@@ -46,8 +45,3 @@ applySH t s a b =
     let x = getD s a (pos 0) in
     let y = getD s b (pos 0) in
     set (set t a (Round2 (x +ℤ y) 14)) b (Round2 (x -ℤ y) 14)
-
--- x and y are the rounded values of B
-pub record Turned (p q angle x y : ℤ) : Type 0 where
-  pub x-is : x ≡ Round2 (turnX p q angle) 14
-  pub y-is : y ≡ Round2 (turnY p q angle) 14

@@ -5,8 +5,9 @@ ghost use lib.ListN.{getD};
 ghost use Rattle.whole.specs.Round.{Round2};
 ghost use Rattle.whole.specs.Within.{Within};
 ghost use Rattle.primitives.specs.Brev.{Brev};
-ghost use Rattle.primitives.specs.Cosine.{cos64Lookup, modulo, Cos64, Sin64, wrap32};
-ghost use Rattle.primitives.specs.Rotations.{Turned, applyB, applyH, applySB, applySH};
+ghost use Rattle.primitives.specs.Cosine.{cos64Lookup, modulo, Cos64, Sin64};
+ghost use Rattle.primitives.specs.Inner.{wrap32, Turned};
+ghost use Rattle.primitives.specs.Rotations.{applyB, applyH, applySB, applySH};
 
 // COS64_LOOKUP: entry i is round(16384 cos(i π / 64)). By arms, because an array constant is built anew at each run-time index.
 fn cos64_lookup(i: usize) -> i64

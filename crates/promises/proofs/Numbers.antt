@@ -5,7 +5,7 @@ use Rattle.whole.specs.Round.{Round2}
 use Rattle.whole.specs.Steps.{run, each, when}
 use Rattle.primitives.specs.Brev.{Brev}
 use Rattle.primitives.specs.Cosine.{Cos64, Sin64, cosAt}
-use Rattle.primitives.specs.Rotations.{turnX, turnY, put, applyB, applyH}
+use Rattle.primitives.specs.Rotations.{turnX, turnY, setPair, applyB, applyH}
 use Rattle.steps.specs.Step.{step, halfway, wht4}
 use Rattle.dct.specs.Dct.{steps2, steps3, steps4, steps5, steps6, steps7, tailAt, tail, dctSteps, dctRow, dct}
 use Rattle.wht.specs.Wht.{whtRow, wht}
@@ -15,5 +15,5 @@ use Rattle.blocks.specs.Inverse.{apply, rounding, inverse2d}
 use Rattle.promises.specs.Numbers.{numbers, givens, saids}
 
 pub worked : givens numbers ≡ saids numbers
-unfolding numbers inverse2d rowsThenColumns rows columns anew line tabulate apply rounding dct dctRow dctSteps tail tailAt steps2 steps3 steps4 steps5 steps6 steps7 each when run step move fill applyB applyH put turnX turnY Round2 Cos64 Sin64 cosAt Brev wht whtRow wht4 halfway quantize rounded
+unfolding numbers inverse2d rowsThenColumns rows columns anew line tabulate apply rounding dct dctRow dctSteps tail tailAt steps2 steps3 steps4 steps5 steps6 steps7 each when run step move fill applyB applyH setPair turnX turnY Round2 Cos64 Sin64 cosAt Brev wht whtRow wht4 halfway quantize rounded
 worked = refl

@@ -3,6 +3,7 @@ use mathlib.Core.Path.{_≡_, sym, ap, _∙_}
 use mathlib.Core.List.{List}
 use Prim.Native.Nat.{ℕ}
 use lib.IntN.{ℤ, pos}
+use denote.Ref.{RefT}
 use Rattle.answers.specs.declared.Answer.{Answer}
 use Rattle.answers.specs.Answers.{number}
 use Rattle.answers.specs.Limits.{codeable}
@@ -16,8 +17,11 @@ use Rattle.vbk_read.specs.Records.{Recorded}
 use Rattle.vbk_read.specs.declared.Fields.{Fields}
 use Rattle.vbk_read.specs.declared.Header.{Header}
 use Rattle.vbk_read.specs.declared.Record.{Record}
+use Rattle.vbk_read.specs.declared.Reader.{Reader}
 use Rattle.vbk.specs.Promises.{Replayed, Printed}
 use Rattle.vbk.specs.declared.Run.{Run}
+use Rattle.exports.specs.Told.{Told}
+use Rattle.exports.specs.Run.{RunTold}
 
 -- two answers with one number, and two values with one definition
 same-answer : (n : ℕ) (a b : Answer) → number a ≡ n → number b ≡ n → a ≡ b
@@ -42,7 +46,7 @@ forward-unique block a b s t p q = (same-answer _ a b (p .answered) (q .answered
 pub quantize-unique : (u : Q.Input) (a b : Answer) (s t : List ℤ) → Q.Quantized u a s → Q.Quantized u b t → (a ≡ b) × (s ≡ t)
 quantize-unique u a b s t p q = (same-answer (Q.answerOf u) a b (p .answered) (q .answered), same (p .written) (q .written))
 
--- `max_codeable_coef`
+-- `max_codeable_coef` and its export
 pub codeable-unique : (depth : ℕ) (r t : ℤ) → r ≡ pos (codeable depth) → t ≡ pos (codeable depth) → r ≡ t
 codeable-unique depth r t p q = same p q
 
@@ -81,8 +85,24 @@ replay-unique s samples answers r t p₁ p₂ a₁ a₂ p q =
       same (p .answers-are) (q .answers-are),
     )
 
--- `blockrun`
+-- `blockrun` and its export
 pub blockrun-unique : (s samples answers out : List ℕ) (r t : ℕ) (p₁ p₂ a₁ a₂ o₁ o₂ : List ℕ) → Printed s samples answers out r p₁ a₁ o₁
     → Printed s samples answers out t p₂ a₂ o₂ → (r ≡ t) × (p₁ ≡ p₂) × (a₁ ≡ a₂) × (o₁ ≡ o₂)
 blockrun-unique s samples answers out r t p₁ p₂ a₁ a₂ o₁ o₂ p q =
     (same (p .length-is) (q .length-is), same (p .samples-are) (q .samples-are), same (p .answers-are) (q .answers-are), same (p .text-is) (q .text-is))
+
+-- `bracetwill_inverse_transform_2d`, its reference, `bracetwill_reconstruct_block`, `bracetwill_forward_wht_2d`, `bracetwill_quantize_block_tx` and `bracetwill_quantize_block`
+pub told-unique : {Given Lent : Type 0} (answer : Given → ℕ) (after : Given → Lent) (u : Given) (r t : ℕ) (k l : Lent) → Told answer after u r k
+    → Told answer after u t l → (r ≡ t) × (k ≡ l)
+told-unique answer after u r t k l p q = (same (p .answered) (q .answered), same (p .written) (q .written))
+
+-- `bracetwill_replay`
+pub run-told-unique : (s samples answers room : List ℕ) (r t : ℕ) (p₁ p₂ a₁ a₂ f₁ f₂ : List ℕ) → RunTold s samples answers room r p₁ a₁ f₁
+    → RunTold s samples answers room t p₂ a₂ f₂ → (r ≡ t) × (p₁ ≡ p₂) × (a₁ ≡ a₂) × (f₁ ≡ f₂)
+run-told-unique s samples answers room r t p₁ p₂ a₁ a₂ f₁ f₂ p q =
+    (same (p .answered) (q .answered), same (p .samples-are) (q .samples-are), same (p .answers-are) (q .answers-are), same (p .figures-are) (q .figures-are))
+
+-- `open`
+pub open-unique : (file : RefT (List ℕ)) (at : ℕ) (r t : Reader) → (r .file ≡ file) × (r .at ≡ at) → (t .file ≡ file) × (t .at ≡ at) → r ≡ t
+open-unique file at r t p q =
+    ap (λ (x : RefT (List ℕ)). record { file = x; at = r .at }) (same (p .0) (q .0)) ∙ ap (λ (x : ℕ). record { file = t .file; at = x }) (same (p .1) (q .1))

@@ -21,8 +21,8 @@ abbrev one : ℤ → ℤ → Row
 one given said = record { given = given ∷ []; said = said ∷ [] }
 
 -- the residual of a 4 by 4 block of type 0 with a number at place 0 alone, and the number that each of its sixteen is
-abbrev dcOnly : ℤ → ℤ → Row
-dcOnly x said = record { given = inverse2d 2 0 false (x ∷ replicate 15 (pos 0)); said = replicate 16 said }
+abbrev dcBlock : ℤ → ℤ → Row
+dcBlock x said = record { given = inverse2d 2 0 false (x ∷ replicate 15 (pos 0)); said = replicate 16 said }
 
 -- the token of a coefficient at a depth of 8
 abbrev token : ℕ → ℤ → ℤ → ℤ → Row
@@ -37,10 +37,10 @@ numbers =
     ∷ one (Cos64 (negsuc 31)) (pos 0)
     ∷ one (Sin64 (pos 32)) (pos 16384)
     ∷ one (Sin64 (negsuc 2147483647)) (pos 0)
-    ∷ dcOnly (pos 16) (pos 1)
-    ∷ dcOnly (pos 14) (pos 0)
-    ∷ dcOnly (negsuc 15) (pos 0)
-    ∷ dcOnly (pos 32) (pos 1)
+    ∷ dcBlock (pos 16) (pos 1)
+    ∷ dcBlock (pos 14) (pos 0)
+    ∷ dcBlock (negsuc 15) (pos 0)
+    ∷ dcBlock (pos 32) (pos 1)
     ∷ record { given = take 4 (wht 0 (pos 5 ∷ replicate 31 (pos 0))); said = pos 3 ∷ pos 2 ∷ pos 2 ∷ pos 2 ∷ [] }
     ∷ token 0 (pos 4) (pos 2) (pos 0)
     ∷ token 0 (pos 4) (pos 3) (pos 1)

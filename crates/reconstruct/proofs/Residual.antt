@@ -14,11 +14,12 @@ use lib.Seq.{ext-getD}
 use lib.ListN.{length, getD, replicate, length-replicate, getD-replicate, List·getD-eq-default}
 use Rattle.whole.specs.Lists.{tabulate, fill}
 use Rattle.whole.specs.Tests.{anyBelow}
-use Rattle.whole.specs.Within.{Within, AllWithin}
+use Rattle.whole.specs.Within.{Within}
+use Rattle.whole.specs.Inner.{AllWithin}
 use Rattle.whole.proofs.Lists.{length-tabulate, getD-tabulate, length-fill, fill-rest, fill-below}
 use Rattle.whole.proofs.Within.{within-abs, within-le, within-mul, within-lit, within-zero}
 use Rattle.whole.proofs.Round.{round2-within}
-use Rattle.steps.specs.Step.{turned}
+use Rattle.steps.specs.Inner.{turned}
 use Rattle.answers.specs.Limits.{COEF_LIMIT, codeable}
 use Rattle.answers.proofs.Passed.{quantizer}
 use Rattle.quant.specs.declared.DcQuant.{DcQuant}
@@ -30,8 +31,9 @@ use Rattle.plane.specs.declared.Plane.{Plane}
 use Rattle.plane.specs.Place.{SamplesOf}
 use Rattle.plane.specs.Plane.{planeAfter}
 use Rattle.plane.proofs.Block.{same-residuals}
-use Rattle.blocks.specs.Block.{live, row, column, rows, anew, FirstWithin}
-use Rattle.blocks.specs.Inverse.{apply, rowPass, columnPass, bits, rounding, inverse2d, dcOnly, Possible}
+use Rattle.blocks.specs.Block.{row, column, rows, anew}
+use Rattle.blocks.specs.Inner.{live, FirstWithin, dcValue, Possible}
+use Rattle.blocks.specs.Inverse.{apply, rowPass, columnPass, bits, rounding, inverse2d}
 use Rattle.blocks.proofs.Places.{in-row, in-column, by-place}
 use Rattle.blocks.proofs.Lines.{line-same, zeros-at}
 use Rattle.blocks.proofs.Live.{dead-at}
@@ -78,9 +80,9 @@ by-front tx-type lossless block h =
 
 -- and of place 0 alone: one number sixteen times
 pub by-flat : (block : List ℤ) → length block ≡ 1024 → live 1 15 block ≡ false
-    → fill 16 (λ k. getD (replicate 16 (dcOnly 2 (getD block 0 (pos 0)))) k (pos 0)) block ≡ inverse2d 2 0 false block
+    → fill 16 (λ k. getD (replicate 16 (dcValue 2 (getD block 0 (pos 0)))) k (pos 0)) block ≡ inverse2d 2 0 false block
 by-flat block h d =
-    let v = dcOnly 2 (getD block 0 (pos 0)) in
+    let v = dcValue 2 (getD block 0 (pos 0)) in
     let g : ℕ → ℤ = λ k. getD (replicate 16 v) k (pos 0) in
     let f : ℕ → ℕ → ℤ = λ i j. v in
     block-ext 4 (fill 16 g block) (anew 4 f block) (length-fill 16 g block ∙ sym (anew-length 4 f block))
@@ -224,14 +226,14 @@ module _ (size : ℕ) (dc : DcQuant) (ac : AcQuant) (tokens : List ℤ) (a : Acc
       rw (coef-is (1 + k) (omega arith), t, zero-token size dc ac (a .quantizers) (1 + k)))
 
   pub flat-at : (i j : ℕ) → i < side (size + 2) → j < side (size + 2)
-      → dcOnly (size + 2) (dequant size (dc .0) (getD tokens 0 (pos 0))) ≡ getD (residual size dc ac 0 false tokens) (i * side (size + 2) + j) (pos 0)
+      → dcValue (size + 2) (dequant size (dc .0) (getD tokens 0 (pos 0))) ≡ getD (residual size dc ac 0 false tokens) (i * side (size + 2) + j) (pos 0)
   unfolding residual quantizerAt
   flat-at i j hi hj =
       let d = dequantAll size dc ac tokens in
       let room : area (size + 2) ≤ length d = rw (all-length size dc ac 0 false tokens a) (NatL.le-refl (area (size + 2))) in
       let first : getD d 0 (pos 0) ≡ dequant size (dc .0) (getD tokens 0 (pos 0)) = coef-is 0 (NatL.mul-pos (pow-pos (size + 2)) (pow-pos (size + 2))) in
-      ap (dcOnly (size + 2)) (sym first)
-      ∙ sym (anew-at (side (size + 2)) (λ i j. dcOnly (size + 2) (getD d 0 (pos 0))) d room i j hi hj)
+      ap (dcValue (size + 2)) (sym first)
+      ∙ sym (anew-at (side (size + 2)) (λ i j. dcValue (size + 2) (getD d 0 (pos 0))) d room i j hi hj)
       ∙ ap (λ (l : List ℤ). getD l (i * side (size + 2) + j) (pos 0)) (sym (dc-only (size + 2) (a .possible .least) (a .possible .most) d room coefs-dead))
 
 -- ---- the range of the one number
@@ -239,8 +241,8 @@ turned-within : (m : ℕ) {x : ℤ} → Within m x → Within ((m * 11585 + 8192
 unfolding turned
 turned-within m {x} b = round2-within 14 {x = x *ℤ pos 11585} (omega arith) (within-mul b (within-lit 11585 (pos 11585) tt))
 
-pub dcOnly-within : (size : ℕ) (x : ℤ) → size ≤ 3 → Within COEF_LIMIT x → Within (2 ^ 62) (dcOnly (size + 2) x)
-unfolding dcOnly
+pub dcOnly-within : (size : ℕ) (x : ℤ) → size ≤ 3 → Within COEF_LIMIT x → Within (2 ^ 62) (dcValue (size + 2) x)
+unfolding dcValue
 dcOnly-within size x h b =
     let w : Within (2 ^ 31) (turned (turned x)) = within-le (lit≤ tt) (turned-within _ (turned-within _ b)) in
     within-le
@@ -281,14 +283,14 @@ lossy-added p top x y size dc ac tx-type lossless tokens samples e = rw e
 
 flat-plain : (p : Plane) (top x y size : ℕ) (dc : DcQuant) (ac : AcQuant) (tokens : List ℤ) (samples : List ℕ) → SamplesOf p samples
     → Accepted size dc ac 0 false tokens → live 1 (length tokens - 1) tokens ≡ false
-    → planeAfter p top x y (side (size + 2)) (λ i j. dcOnly (size + 2) (dequant size (dc .0) (getD tokens 0 (pos 0)))) samples ≡ added p top x y size dc ac 0 false tokens samples
+    → planeAfter p top x y (side (size + 2)) (λ i j. dcValue (size + 2) (dequant size (dc .0) (getD tokens 0 (pos 0)))) samples ≡ added p top x y size dc ac 0 false tokens samples
 unfolding added
 flat-plain p top x y size dc ac tokens samples s a dead =
-    same-residuals p samples s top x y (side (size + 2)) (λ i j. dcOnly (size + 2) (dequant size (dc .0) (getD tokens 0 (pos 0)))) _ (flat-at size dc ac tokens a dead)
+    same-residuals p samples s top x y (side (size + 2)) (λ i j. dcValue (size + 2) (dequant size (dc .0) (getD tokens 0 (pos 0)))) _ (flat-at size dc ac tokens a dead)
 
 pub flat-added : (p : Plane) (top x y size : ℕ) (dc : DcQuant) (ac : AcQuant) (tx-type : ℕ) (lossless : Bool) (tokens : List ℤ) (samples : List ℕ) → SamplesOf p samples
     → Accepted size dc ac tx-type lossless tokens → lossless ≡ false → onlyFirst tx-type tokens ≡ true
-    → planeAfter p top x y (side (size + 2)) (λ i j. dcOnly (size + 2) (dequant size (dc .0) (getD tokens 0 (pos 0)))) samples ≡ added p top x y size dc ac tx-type lossless tokens samples
+    → planeAfter p top x y (side (size + 2)) (λ i j. dcValue (size + 2) (dequant size (dc .0) (getD tokens 0 (pos 0)))) samples ≡ added p top x y size dc ac tx-type lossless tokens samples
 flat-added p top x y size dc ac tx-type lossless tokens samples s a l o =
     let k = only-first-is tx-type tokens o in
     rw (k .0, l) (flat-plain p top x y size dc ac tokens samples s (rw (k .0, l) at a) (k .1))

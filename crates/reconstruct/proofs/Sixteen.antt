@@ -7,10 +7,11 @@ use native.Mathlib.Omega.{arith}
 use lib.IntN.{ℤ, pos}
 use lib.ListN.{length, getD, List·getD-eq-default}
 use Rattle.whole.specs.Lists.{tabulate}
-use Rattle.whole.specs.Within.{Within, AllWithin}
+use Rattle.whole.specs.Within.{Within}
+use Rattle.whole.specs.Inner.{AllWithin}
 use Rattle.whole.proofs.Lists.{length-tabulate, getD-tabulate}
 use Rattle.whole.proofs.Within.{within-zero}
-use Rattle.blocks.specs.Block.{FirstWithin}
+use Rattle.blocks.specs.Inner.{FirstWithin}
 
 -- a place of the block is below 16
 pub below-sixteen : (i j : ℕ) → i < 4 → j < 4 → i * 4 + j < 16

@@ -17,7 +17,7 @@ use Rattle.answers.proofs.Passed.{codeable-most, none-beyond}
 use Rattle.quant.specs.Places.{dequantAll}
 use Rattle.plane.specs.declared.Plane.{Plane}
 use Rattle.plane.specs.Place.{SamplesOf, areaOf}
-use Rattle.blocks.specs.Inverse.{Possible}
+use Rattle.blocks.specs.Inner.{Possible}
 use Rattle.answers.specs.Sizes.{area}
 use Rattle.reconstruct.specs.Reconstruct.{Input, largest, badQuantizers, badPlane, badCoefficient, answerOf, tokenAnswer, shapeOf, Accepted, added, samplesAfter, Reconstructed}
 

@@ -17,8 +17,8 @@ use Rattle.quant.specs.Places.{dequantAll}
 use Rattle.plane.specs.declared.Plane.{Plane}
 use Rattle.plane.specs.Place.{areaOf}
 use Rattle.plane.specs.Plane.{planeAfter}
-use Rattle.blocks.specs.Block.{live}
-use Rattle.blocks.specs.Inverse.{inverse2d, Possible}
+use Rattle.blocks.specs.Inner.{live, Possible}
+use Rattle.blocks.specs.Inverse.{inverse2d}
 
 -- what the call is given
 pub record Input : Type 0 where

@@ -20,7 +20,7 @@ ghost use lib.Dec.{eqb};
 ghost use lib.IntN.{pos, natAbs};
 ghost use lib.ListN.{length, getD, replicate};
 ghost use Rattle.whole.specs.Lists.{tabulate, fill};
-ghost use Rattle.whole.specs.Within.{AllWithin};
+ghost use Rattle.whole.specs.Inner.{AllWithin};
 ghost use Rattle.answers.specs.Answers.{number};
 ghost use Rattle.answers.specs.Bad.{badDepth, badQuantizer};
 ghost use Rattle.answers.specs.Limits.{COEF_LIMIT, codeable};
@@ -28,8 +28,8 @@ ghost use Rattle.quant.specs.Places.{quantizerAt};
 ghost use Rattle.quant.specs.Token.{dqDenom, dequant};
 ghost use Rattle.plane.specs.Place.{SamplesOf};
 ghost use Rattle.plane.specs.Plane.{planeAfter};
-ghost use Rattle.blocks.specs.Block.{live, FirstWithin};
-ghost use Rattle.blocks.specs.Inverse.{inverse2d, dcOnly};
+ghost use Rattle.blocks.specs.Inner.{live, FirstWithin, dcValue};
+ghost use Rattle.blocks.specs.Inverse.{inverse2d};
 ghost use Rattle.reconstruct.specs.Bound.{Bounds, SmallTokens, anyAbove};
 ghost use Rattle.answers.specs.Sizes.{side};
 ghost use Rattle.reconstruct.specs.Reconstruct.{largest, badQuantizers, badPlane, shapeOf, tokenAnswer, Accepted, added, onlyFirst, Reconstructed};
@@ -192,9 +192,9 @@ fn all_near(tokens: &[i64]) -> bool
 {
     let count = tokens.len();
     if count == 16 {
-        return blocks::all_raised(tokens, 0, 16, 8192) < 16384;
+        return blocks::or_plus_most(tokens, 0, 16, 8192) < 16384;
     }
-    blocks::all_raised(tokens, 0, count, 8192) < 16384
+    blocks::or_plus_most(tokens, 0, count, 8192) < 16384
 }
 
 // Whether no limit is near: 8,192 × 16,384 is the coefficients' limit. Quick, and enough for almost every block.
@@ -422,7 +422,7 @@ fn reconstruct_4(
     add_back4(samples, plane, x, y, &block, top);
 }
 
-// Tokens that are taken, at any size.
+// Tokens that are taken, 8 by 8 and more.
 fn reconstruct_n(
     samples: &mut [u16],
     plane: Plane,
@@ -435,12 +435,12 @@ fn reconstruct_n(
     tx_type: u8,
     top: u16,
 )
-    requires { ⌜ SamplesOf plane (now samples) × Accepted size «dc_quant» «ac_quant» «tx_type» false (now tokens) ⌝ }
+    requires { ⌜ SamplesOf plane (now samples) × Accepted size «dc_quant» «ac_quant» «tx_type» false (now tokens) × (1 ≤ size) ⌝ }
     ensures { λ _. ⌜ now (samples .exit) ≡ added plane top x y size «dc_quant» «ac_quant» «tx_type» false (now (tokens .entry)) (now (samples .entry)) ⌝ }
 {
     let mut block = zeros();
     dequantize(&mut block, tokens, tokens.len(), size, dc_quant, ac_quant);
-    idct::fast::both_passes(&mut block, size + 2, tx_type, false);
+    idct::fast::both_passes(&mut block, size + 2, tx_type);
     let n0 = side(size);
     plane::add_back(samples, plane, x, y, &block, n0, n0, top);
 }
@@ -463,7 +463,7 @@ fn reconstruct_flat(
     top: u16,
 )
     requires { ⌜ SamplesOf plane (now samples) × (size ≤ 3) × (badQuantizer («dc_quant» .0) ≡ false) × (natAbs token ≤ codeable 12) × (natAbs (dequant size («dc_quant» .0) token) ≤ COEF_LIMIT) ⌝ }
-    ensures { λ _. ⌜ now (samples .exit) ≡ planeAfter plane top x y (side (size + 2)) (λ i j. dcOnly (size + 2) (dequant size («dc_quant» .0) token)) (now (samples .entry)) ⌝ }
+    ensures { λ _. ⌜ now (samples .exit) ≡ planeAfter plane top x y (side (size + 2)) (λ i j. dcValue (size + 2) (dequant size («dc_quant» .0) token)) (now (samples .entry)) ⌝ }
 {
     let mut block = zeros();
     block[0] = dc_quant.dequant(token, size);

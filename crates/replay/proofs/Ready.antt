@@ -7,11 +7,13 @@ use native.Mathlib.Omega.{arith}
 use lib.IntN.{ℤ, pos}
 use lib.ListN.{getD, length, replicate, length-replicate, getD-replicate}
 use lib.Pow.{pow-mono}
-use Rattle.whole.specs.Steps.{Ok}
-use Rattle.whole.specs.Within.{Within, EachWithin}
+use Rattle.whole.specs.Inner.{Ok}
+use Rattle.whole.specs.Within.{Within}
+use Rattle.whole.proofs.Within.{EachWithin}
 use Rattle.primitives.specs.Brev.{Brev}
-use Rattle.steps.specs.Step.{Move, Fine, step}
-use Rattle.steps.specs.Step2.{step2, Fine2, fresh}
+use Rattle.steps.specs.Step.{Move, step}
+use Rattle.steps.specs.Inner.{Fine, Fine2}
+use Rattle.steps.specs.Step2.{step2, fresh}
 use Rattle.dct.specs.Dct.{dctSteps}
 use Rattle.adst.specs.Adst.{adstSteps}
 use Rattle.dct.proofs.Dct.{dct-process}

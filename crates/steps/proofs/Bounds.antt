@@ -4,13 +4,17 @@ use mathlib.Core.List.{List, [], _∷_}
 use Prim.Native.Nat.{ℕ, max, _+_, _-_, _*_, _/_, _^_, zero, suc, _≤_, _<_}
 use lib.Dec.{leb, ltb, T, leb→le, ltb→lt}
 use lib.ListN.{length, getD, set, replicate, length-replicate, getD-replicate}
-use Rattle.whole.specs.Within.{EachWithin, Within}
-use Rattle.whole.specs.Tests.{both, allBelow}
+use Rattle.whole.specs.Within.{Within}
+use Rattle.whole.proofs.Within.{EachWithin, within-self, within-le, within-parts, within-neg, within-add, within-sub, within-mul, within-shr, each-set, each-all, table-within}
+use Rattle.whole.proofs.Tests.{both, allBelow, b₁, b₂, below}
 use Rattle.whole.specs.Lists.{move, fill}
-use Rattle.whole.specs.Steps.{run, checks, Ok}
-use Rattle.primitives.specs.Growth.{rounded, grownX, grownY}
-use Rattle.steps.specs.Step.{Step, Bf, Hd, Neg, Move, A4, Wh, step, adst4, halfway, wht4, Fine}
-use Rattle.steps.specs.Step2.{Arrays, Step2, on, SB, SH, step2, fresh, Fine2}
+use Rattle.whole.specs.Steps.{run}
+use Rattle.whole.proofs.Steps.{checks, checks-sound}
+use Rattle.whole.specs.Inner.{Ok}
+use Rattle.primitives.proofs.Growth.{grownRound, grownX, grownY, within-rounded, within-turnX, within-turnY}
+use Rattle.steps.specs.Step.{Step, Bf, Hd, Neg, Move, A4, Wh, step, adst4, halfway, wht4}
+use Rattle.steps.specs.Inner.{Fine, Fine2}
+use Rattle.steps.specs.Step2.{Arrays, Step2, on, SB, SH, step2, fresh}
 use native.Mathlib.Nat as NatL
 use native.Mathlib.Omega.{arith}
 use lib.IntN.{ℤ, pos, _+ℤ_, _-ℤ_}
@@ -18,11 +22,7 @@ use lib.Pow.{pow-pos}
 use lib.Signed.{shrZ}
 use Rattle.whole.proofs.Ring.{E, at, _⊕_, _⊖_, ev, pp, pn, sound}
 use Rattle.whole.proofs.Parts.{shr-low, shr-high}
-use Rattle.whole.proofs.Within.{within-self, within-le, within-parts, within-neg, within-add, within-sub, within-mul, within-shr, each-set, each-all, table-within}
-use Rattle.whole.proofs.Tests.{b₁, b₂, below}
-use Rattle.whole.proofs.Steps.{checks-sound}
-use Rattle.primitives.proofs.Growth.{within-rounded, within-turnX, within-turnY}
-use Rattle.primitives.specs.Rotations.{put, applyB, applyH, applySB, applySH}
+use Rattle.primitives.specs.Rotations.{setPair, applyB, applyH, applySB, applySH}
 
 -- of floor(x / 2^k), for x within m
 abbrev pub shifted : ℕ → ℕ → ℕ
@@ -30,8 +30,8 @@ shifted k m = (m + (2 ^ k - 1)) / 2 ^ k
 
 -- what a step does to the bounds
 unfoldable pub after : Step → List ℕ → List ℕ
-after (Bf a b g false) bs = set (set bs a (rounded (grownX (getD bs a 0) (getD bs b 0) g))) b (rounded (grownY (getD bs a 0) (getD bs b 0) g))
-after (Bf a b g true) bs = set (set bs a (rounded (grownY (getD bs a 0) (getD bs b 0) g))) b (rounded (grownX (getD bs a 0) (getD bs b 0) g))
+after (Bf a b g false) bs = set (set bs a (grownRound (grownX (getD bs a 0) (getD bs b 0) g))) b (grownRound (grownY (getD bs a 0) (getD bs b 0) g))
+after (Bf a b g true) bs = set (set bs a (grownRound (grownY (getD bs a 0) (getD bs b 0) g))) b (grownRound (grownX (getD bs a 0) (getD bs b 0) g))
 after (Hd a b false) bs = set (set bs a (getD bs a 0 + getD bs b 0)) b (getD bs a 0 + getD bs b 0)
 after (Hd a b true) bs = set (set bs b (getD bs b 0 + getD bs a 0)) a (getD bs b 0 + getD bs a 0)
 after (Neg i) bs = set bs i (getD bs i 0)
@@ -45,7 +45,7 @@ after A4 bs =
     let x1 = 9929 * a + 5283 * c + 15212 * d in
     let x2 = 13377 * (a + c + d) in
     let x3 = 13377 * b in
-    set (set (set (set bs 0 (rounded (x0 + x3))) 1 (rounded (x1 + x3))) 2 (rounded x2)) 3 (rounded (x0 + x1 + x3))
+    set (set (set (set bs 0 (grownRound (x0 + x3))) 1 (grownRound (x1 + x3))) 2 (grownRound x2)) 3 (grownRound (x0 + x1 + x3))
 -- each result is half of a sum of the four up to sign, rounded
 after (Wh k) bs =
     let h = (shifted k (getD bs 0 0) + shifted k (getD bs 1 0) + shifted k (getD bs 2 0) + shifted k (getD bs 3 0) + 1) / 2 in
@@ -88,7 +88,7 @@ after2 (SB a b g false) v =
 after2 (SB a b g true) v =
     record { T = v .T; S = set (set (v .S) a (grownY (getD (v .T) a 0) (getD (v .T) b 0) g)) b (grownX (getD (v .T) a 0) (getD (v .T) b 0) g) }
 after2 (SH a b) v =
-    record { T = set (set (v .T) a (rounded (getD (v .S) a 0 + getD (v .S) b 0))) b (rounded (getD (v .S) a 0 + getD (v .S) b 0)); S = v .S }
+    record { T = set (set (v .T) a (grownRound (getD (v .S) a 0 + getD (v .S) b 0))) b (grownRound (getD (v .S) a 0 + getD (v .S) b 0)); S = v .S }
 
 unfoldable pub fine2 : ℕ → Step2 → Bounds → Bool
 fine2 m (on s) v = fine m s (v .T)
@@ -232,7 +232,7 @@ each-wh k h f =
     each-set 3 (each-set 2 (each-set 1 (each-set 0 h (within-wh0 a c d b)) (within-wh1 a c d b)) (within-wh2 a c d b)) (within-wh3 a c d b)
 
 pub step-sound : (m : ℕ) (s : Step) (bs : List ℕ) (t : List ℤ) → T (fine m s bs) → EachWithin bs t → Fine m s t × EachWithin (after s bs) (step s t)
-unfolding after fine step applyB applyH put move
+unfolding after fine step applyB applyH setPair move
 step-sound m (Bf a b g false) bs t h k =
     let w = two 32 m bs t a b h k in
     let p = w .fst in
@@ -300,7 +300,7 @@ pass-sound m ss n i o {t} h b =
 
 -- ---- over T and S
 pub step-sound2 : (m : ℕ) (s : Step2) (v : Bounds) (u : Arrays) → T (fine2 m s v) → EachWithin2 v u → Fine2 m s u × EachWithin2 (after2 s v) (step2 s u)
-unfolding after2 fine2 step2 applySB applySH put
+unfolding after2 fine2 step2 applySB applySH setPair
 step-sound2 m (on s) v u h k = let r = step-sound m s (v .T) (u .T) h (k .ofT) in (r .0, record { ofT = r .1; ofS = k .ofS })
 step-sound2 m (SB a b g false) v u h k =
     let w = two 16 m (v .T) (u .T) a b h (k .ofT) in

@@ -6,15 +6,14 @@ use Prim.Native.Nat.{ℕ, _≤_, zero, suc, _<_}
 use lib.Dec.{leb, ltb, T, leb→le, ltb→lt}
 use lib.IntN.{ℤ, pos}
 use lib.ListN.{length, getD, set, length-set}
-use Rattle.whole.specs.Tests.{both}
+use Rattle.whole.proofs.Tests.{both, b₁, b₂}
 use Rattle.steps.specs.Step.{Step, Bf, Hd, Neg, Move, A4, Wh, step, adst4, wht4}
 use Rattle.steps.specs.Step2.{Step2, on, SB, SH, Arrays, step2}
 use native.Mathlib.Nat as NatL
 use native.Mathlib.Omega.{arith}
 use Rattle.whole.specs.Lists.{fill, move}
 use Rattle.whole.specs.Steps.{run}
-use Rattle.whole.proofs.Tests.{b₁, b₂}
-use Rattle.primitives.specs.Rotations.{put, applyB, applyH, applySH}
+use Rattle.primitives.specs.Rotations.{setPair, applyB, applyH, applySH}
 
 unfoldable pub writes : ℕ → Step → Bool
 writes n (Bf a b g f) = both (ltb a n) (ltb b n)
@@ -73,7 +72,7 @@ stays-fill n zero g t h = stays-all
 stays-fill n (suc k) g t h = stays-set k (g k) h (stays-fill n k g t (omega arith))
 
 pub step-stays : (n : ℕ) (s : Step) (t : List ℤ) → T (writes n s) → Stays n t (step s t)
-unfolding writes step applyB applyH put move adst4 wht4
+unfolding writes step applyB applyH setPair move adst4 wht4
 step-stays n (Bf a b g false) t h = two a b _ _ h stays-all
 step-stays n (Bf a b g true) t h = two a b _ _ h stays-all
 step-stays n (Hd a b false) t h = two a b _ _ h stays-all

@@ -8,7 +8,8 @@ use lib.IntN.{ℤ, pos, negsuc, _*ℤ_, negℤ, _+ℤ_, _-ℤ_, zero-*ℤ, +ℤ-
 use lib.ListN.{length, getD, set, replicate, length-set, length-replicate, getD-replicate}
 use Rattle.whole.specs.Round.{Round2}
 use Rattle.whole.specs.Lists.{move, fill}
-use Rattle.steps.specs.Step.{turned, Step, Bf, Hd, Neg, Move, A4, Wh, step, adst4, halfway, wht4}
+use Rattle.steps.specs.Step.{Step, Bf, Hd, Neg, Move, A4, Wh, step, adst4, halfway, wht4}
+use Rattle.steps.specs.Inner.{turned}
 use Rattle.steps.specs.Step2.{Arrays, Step2, on, SB, SH, step2, fresh}
 use native.Mathlib.Nat as NatL
 use native.Mathlib.Decide.{decLt}
@@ -19,7 +20,7 @@ use borrow.Author.Tests.{eqb-true}
 use Rattle.whole.specs.Steps.{run}
 use Rattle.whole.proofs.Steps.{keeps}
 use Rattle.primitives.specs.Cosine.{Cos64, Sin64, cosAt}
-use Rattle.primitives.specs.Rotations.{turnX, turnY, put, applyB, applyH, applySB, applySH}
+use Rattle.primitives.specs.Rotations.{turnX, turnY, setPair, applyB, applyH, applySB, applySH}
 use Rattle.steps.proofs.Places.{writes, writes2, every, Stays, steps-stay, steps-stay2}
 
 pub data TxType : Type 0 where
@@ -251,7 +252,7 @@ module _ (x : ℤ) where
       (of-four h (λ a b c d. rw (shr-zero k a, shr-zero k b, shr-zero k c, shr-zero k d)))
 
   pub shape-sound : (s : Step) (vs : List TxType) (t : List ℤ) → Are x vs t → Are x (shape s vs) (step s t)
-  unfolding shape step applyB applyH put move
+  unfolding shape step applyB applyH setPair move
   shape-sound (Bf a b g false) vs t h =
       let r = turn-is g (getD vs a U) (getD vs b U) (getD t a (pos 0)) (getD t b (pos 0)) (h .each a) (h .each b) in are-set b (are-set a h (r .0)) (r .1)
   shape-sound (Bf a b g true) vs t h =
@@ -277,7 +278,7 @@ module _ (x : ℤ) where
   sh-is v w p q a b = (join-is v w (λ e f. round-zero (rw (e, f))) a b, join-is v w (λ e f. round-zero (rw (e, f))) a b)
 
   pub shape-sound2 : (s : Step2) (v : Shapes) (u : Arrays) → Are2 x v u → Are2 x (shape2 s v) (step2 s u)
-  unfolding shape2 step2 applySB applySH put
+  unfolding shape2 step2 applySB applySH setPair
   shape-sound2 (on s) v u h = record { ofT = shape-sound s (v .T) (u .T) (h .ofT); ofS = h .ofS }
   shape-sound2 (SB a b g false) v u h =
       let r = sb-is g (getD (v .T) a U) (getD (v .T) b U) (getD (u .T) a (pos 0)) (getD (u .T) b (pos 0)) (h .ofT .each a) (h .ofT .each b) in

@@ -1,2 +1,3 @@
 pub mod Step
 pub mod Step2
+pub mod Inner

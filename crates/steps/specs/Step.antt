@@ -1,11 +1,10 @@
 -- A one-dimensional transform is a list of steps over the array T. Specification §8.7.1.
 use mathlib.Core.Bool.{Bool}
 use mathlib.Core.List.{List}
-use Prim.Native.Nat.{ℕ, _^_, _≤_, _<_}
+use Prim.Native.Nat.{ℕ, _^_}
 use lib.IntN.{ℤ, pos, negℤ, _+ℤ_, _-ℤ_, _*ℤ_}
 use lib.ListN.{getD, set}
 use lib.Signed.{shrZ}
-use Rattle.whole.specs.Within.{Within}
 use Rattle.whole.specs.Round.{Round2}
 use Rattle.whole.specs.Lists.{move}
 use Rattle.primitives.specs.Rotations.{applyB, applyH}
@@ -55,20 +54,3 @@ step (Neg i) t = set t i (negℤ (getD t i (pos 0)))
 step (Move k f) t = move (pos 0) k f t
 step A4 t = adst4 t
 step (Wh shift) t = wht4 shift t
-
--- the first four numbers are within m
-abbrev pub FourWithin : ℕ → List ℤ → Type 0
-FourWithin m t = Within m (getD t 0 (pos 0)) × Within m (getD t 1 (pos 0)) × Within m (getD t 2 (pos 0)) × Within m (getD t 3 (pos 0))
-
--- what a step's arithmetic reads is within m, and its places exist
-abbrev pub Fine : ℕ → Step → List ℤ → Type 0
-Fine m (Bf a b angle flip) t = (a < 32) × (b < 32) × Within m (getD t a (pos 0)) × Within m (getD t b (pos 0))
-Fine m (Hd a b flip) t = (a < 32) × (b < 32) × Within m (getD t a (pos 0)) × Within m (getD t b (pos 0))
-Fine m (Neg i) t = (i < 32) × Within m (getD t i (pos 0))
-Fine m (Move k f) t = k ≤ 32
-Fine m A4 t = FourWithin m t
-Fine m (Wh shift) t = FourWithin m t
-
--- x through the rotation by 16: 11585 is cos64(16) and sin64(16)
-unfoldable pub turned : ℤ → ℤ
-turned x = Round2 (x *ℤ pos 11585) 14

@@ -4,7 +4,7 @@ use Prim.Native.Nat.{ℕ, zero, suc, _+_, _≤_, _<_}
 use native.Mathlib.Nat.{le-antisymm}
 use native.Mathlib.Numerals.{add-one}
 use native.Mathlib.Omega.{arith}
-use Rattle.whole.specs.Loops.{times}
+use Rattle.whole.specs.Inner.{times}
 
 pub times-none : {A : Type 0} (f : ℕ → A → A) (x : A) → x ≡ times 0 f x
 unfolding times

@@ -7,13 +7,12 @@ use lib.Dec.{ltb, T, ltb→lt, leb, leb→le}
 use lib.IntN.{ℤ, pos, negℤ, natAbs, _+ℤ_, _-ℤ_, _*ℤ_}
 use mir.Syntax.{Width}
 use mir.Val.{hbits, toZ, ofZ, SFits}
-use Rattle.whole.specs.Tests.{both}
+use Rattle.whole.proofs.Tests.{both, b₁, b₂}
 use Rattle.whole.specs.Within.{Within}
 use native.Mathlib.Omega.{arith}
 use lib.Signed.{mag, shrZ}
 use mir.Facts.{toZ-ofZ}
 use Rattle.whole.proofs.Parts.{zero-minus}
-use Rattle.whole.proofs.Tests.{b₁, b₂}
 use Rattle.whole.proofs.Within.{within-abs, within-le, within-add, within-sub, within-neg, within-mul, within-shr, within-sfits, back}
 
 abbrev pub rd : Width → ℤ → ℤ

@@ -7,8 +7,9 @@ use Prim.Native.Nat.{ℕ, zero, suc, _+_, _≤_, _<_, zero-le}
 use native.Mathlib.Nat as NatL
 use native.Mathlib.Numerals.{add-one}
 use lib.Dec.{T}
-use Rattle.whole.specs.Steps.{each, when, run, Ok, none, next, Left, checks}
-use Rattle.whole.proofs.Tests.{b₁, b₂}
+use Rattle.whole.specs.Steps.{each, when, run}
+use Rattle.whole.specs.Inner.{Ok, none, next}
+use Rattle.whole.proofs.Tests.{both, b₁, b₂}
 
 module _ {A S : Type 0} (step : A → S → S) where
   pub run-join : (xs ys : List A) (t : S) → run step (xs ++ ys) t ≡ run step ys (run step xs t)
@@ -69,6 +70,11 @@ module _ {A S : Type 0} {step : A → S → S} {Fine : A → S → Type 0} where
   unfolding each
   ok-turn f {t} n h i l e = ok-at e (ok-join (each i f) (f i) (first f t n (suc i) l h) .1)
 
+-- code in a row: the steps that are left, from here, come to g
+pub record Left {A S : Type 0} (step : A → S → S) (Fine : A → S → Type 0) (ss : List A) (t g : S) : Type 0 where
+  pub ok : Ok step Fine ss t
+  pub ends : run step ss t ≡ g
+
 module _ {A S : Type 0} {step : A → S → S} {Fine : A → S → Type 0} where
   pub left-all : {ss : List A} {t : S} → Ok step Fine ss t → Left step Fine ss t (run step ss t)
   left-all h = record { ok = h; ends = refl }
@@ -95,6 +101,11 @@ module _ {A S : Type 0} {step : A → S → S} {Fine : A → S → Type 0} where
   left-last l e = e ∙ l .ends
 
 pub ruleset loops = (each-none, each-more, each-done)
+
+-- an abstract domain D beside the states: `after` is what a step does to it, `fine` tests that the step is fine
+unfoldable pub checks : {A D : Type 0} → (A → D → D) → (A → D → Bool) → List A → D → Bool
+checks after fine [] d = true
+checks after fine (s ∷ ss) d = both (fine s d) (checks after fine ss (after s d))
 
 module _ {A S D : Type 0} (step : A → S → S) (Fine : A → S → Type 0) (after : A → D → D) (fine : A → D → Bool) (Holds : D → S → Type 0)
     (one : (s : A) (d : D) (t : S) → T (fine s d) → Holds d t → Fine s t × Holds (after s d) (step s t)) where

@@ -1,13 +1,30 @@
--- Laws of the computed tests: what `both` gives, what holds of each place below n, and `anyBelow` as a scan builds it up.
+-- Computed tests: what `both` gives, what holds of each place below n, of each number of a list, and `anyBelow` as a scan builds it up.
 use mathlib.Core.Path.{_≡_, refl, sym, subst}
 use mathlib.Core.Bool.{Bool, true, false, _||_}
 use mathlib.Core.Logic.{_⊎_, inl, inr, ⊎-elim}
+use mathlib.Core.List.{List, [], _∷_}
 use Prim.Native.Nat.{ℕ, zero, suc, _+_, _<_}
 use native.Mathlib.Nat as NatL
 use native.Mathlib.Numerals.{add-one}
 use native.Mathlib.Omega.{arith}
-use lib.Dec.{T}
-use Rattle.whole.specs.Tests.{both, allBelow, anyBelow}
+use lib.Dec.{T, leb}
+use lib.IntN.{ℤ, natAbs}
+use Rattle.whole.specs.Tests.{anyBelow}
+
+-- both hold
+abbrev pub both : Bool → Bool → Bool
+both true b = b
+both false b = false
+
+-- every k below n has p
+abbrev pub allBelow : ℕ → (ℕ → Bool) → Bool
+allBelow zero p = true
+allBelow (suc n) p = both (p n) (allBelow n p)
+
+-- every number of the list is within m
+abbrev pub everyWithin : ℕ → List ℤ → Bool
+everyWithin m [] = true
+everyWithin m (z ∷ zs) = both (leb (natAbs z) m) (everyWithin m zs)
 
 pub b₁ : (a b : Bool) → T (both a b) → T a
 b₁ true b t = tt

@@ -13,9 +13,9 @@ use mir.Syntax.{Width}
 use mir.Val.{SFits, hbits, toZ, ofZ}
 use mir.Facts.{toZ-ofZ}
 use Rattle.whole.specs.Parts.{P, N}
-use Rattle.whole.specs.Within.{Within, AllWithin, EachWithin}
-use Rattle.whole.specs.Tests.{everyWithin}
-use Rattle.whole.proofs.Tests.{b₁, b₂}
+use Rattle.whole.specs.Within.{Within}
+use Rattle.whole.specs.Inner.{AllWithin}
+use Rattle.whole.proofs.Tests.{everyWithin, b₁, b₂}
 use Rattle.whole.proofs.Parts.{apart, abs-parts, mag-parts, sum-P, sum-N, neg-P, neg-N, mul-P, mul-N}
 
 -- ---- ranges
@@ -99,6 +99,10 @@ within-cond true h k = h
 within-cond false h k = k
 
 -- ---- each by a bound of its own
+-- number k of t is within number k of bs, as far as bs goes; past its end an element of t counts as 0
+pub record EachWithin (bs : List ℕ) (t : List ℤ) : Type 0 where
+  pub each : (k : ℕ) → k < length bs → Within (getD bs k 0) (getD t k (pos 0))
+
 set-each : (bs : List ℕ) (t : List ℤ) (i m : ℕ) (v : ℤ) → ((k : ℕ) → k < length bs → Within (getD bs k 0) (getD t k (pos 0))) → Within m v
     → (k : ℕ) → k < length (set bs i m) → Within (getD (set bs i m) k 0) (getD (set t i v) k (pos 0))
 set-each [] t i m v h b k l = absurd (omega arith)

@@ -3,5 +3,5 @@ pub mod Within
 pub mod Tests
 pub mod Round
 pub mod Lists
-pub mod Loops
 pub mod Steps
+pub mod Inner

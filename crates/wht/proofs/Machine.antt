@@ -13,7 +13,8 @@ use mir.Syntax.{w64}
 use Rattle.whole.specs.Within.{Within}
 use Rattle.whole.proofs.Signed.{rd, Is, is-in, is-rd, add, sub, shr}
 use Rattle.whole.proofs.Within.{within-shr}
-use Rattle.steps.specs.Step.{halfway, FourWithin}
+use Rattle.steps.specs.Step.{halfway}
+use Rattle.steps.specs.Inner.{FourWithin}
 
 pub put-four : (l : List ℤ) {x y z u x′ y′ z′ u′ : ℤ} → x ≡ x′ → y ≡ y′ → z ≡ z′ → u ≡ u′
     → set (set (set (set l 0 x) 1 y) 2 z) 3 u ≡ set (set (set (set l 0 x′) 1 y′) 2 z′) 3 u′

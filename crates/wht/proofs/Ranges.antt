@@ -8,11 +8,12 @@ use native.Mathlib.Omega.{arith}
 use lib.Dec.{T, leb, le→leb}
 use lib.IntN.{ℤ}
 use lib.ListN.{replicate}
-use Rattle.whole.specs.Within.{EachWithin}
-use Rattle.whole.specs.Tests.{both}
-use Rattle.whole.specs.Steps.{run, checks}
-use Rattle.whole.proofs.Steps.{ok-here}
-use Rattle.steps.specs.Step.{step, Wh, FourWithin}
+use Rattle.whole.proofs.Within.{EachWithin}
+use Rattle.whole.proofs.Tests.{both}
+use Rattle.whole.specs.Steps.{run}
+use Rattle.whole.proofs.Steps.{checks, ok-here}
+use Rattle.steps.specs.Step.{step, Wh}
+use Rattle.steps.specs.Inner.{FourWithin}
 use Rattle.steps.proofs.Bounds.{shifted, after, fine, passes, largest, grown, step-sound, pass-sound}
 use Rattle.wht.specs.Wht.{whtRow, wht}
 

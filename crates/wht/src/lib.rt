@@ -1,6 +1,6 @@
 ghost use mathlib.Core.Path.{_≡_};
 ghost use Prim.Native.Nat.{ℕ, _^_, _≤_};
-ghost use Rattle.steps.specs.Step.{FourWithin};
+ghost use Rattle.steps.specs.Inner.{FourWithin};
 ghost use Rattle.wht.specs.Wht.{wht};
 
 // The inverse WHT of t[0] to t[3]; shift is 2 for rows, 0 for columns.

@@ -6,7 +6,8 @@ use borrow.Author.Needs.{needs}
 use Rattle.whole.specs.Steps.{run, each}
 use Rattle.whole.proofs.Steps.{each-more, ok-turn, ok-here, loops}
 use Rattle.steps.specs.Step2.{step2}
-use Rattle.adst.specs.Adst.{arrays, sixteen4}
+use Rattle.adst.specs.Adst.{sixteen4}
+use Rattle.adst.specs.Inner.{arrays}
 use Rattle.adst.proofs.Angles.{turn-fits, product-fits, angle-fits, angle-is}
 use Rattle.adst.proofs.adst16_stage4.Statement.{statement}
 use Rattle.adst.proofs.adst16_stage4.Tie as tie

@@ -10,7 +10,8 @@ use Rattle.whole.specs.Round.{Round2}
 use Rattle.whole.proofs.Signed.{C, loc, lit, _⊕_, _⊖_, _⊗_, val, code, rd-ok, fits, within, value}
 use Rattle.whole.specs.Within.{Within}
 use Rattle.whole.proofs.Within.{within-le}
-use Rattle.steps.specs.Step.{FourWithin, adst4}
+use Rattle.steps.specs.Step.{adst4}
+use Rattle.steps.specs.Inner.{FourWithin}
 use Rattle.adst.proofs.Four.{sum-within}
 use Rattle.adst.proofs.inverse_adst4.Statement.{statement}
 use Rattle.adst.proofs.inverse_adst4.Tie as tie

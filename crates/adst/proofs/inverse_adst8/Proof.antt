@@ -4,11 +4,13 @@ use Prim.Native.Nat.{_^_}
 use lib.IntN.{ℤ, pos}
 use lib.ListN.{replicate}
 use borrow.Author.Needs.{needs}
-use Rattle.whole.specs.Steps.{_⨾_, run, each, Left}
-use Rattle.whole.proofs.Steps.{left-all, left-stage, left-first}
+use Rattle.whole.specs.Steps.{_⨾_, run, each}
+use Rattle.whole.proofs.Steps.{Left, left-all, left-stage, left-first}
 use Rattle.steps.specs.Step.{Move}
-use Rattle.steps.specs.Step2.{Arrays, Step2, step2, fresh, Fine2}
-use Rattle.adst.specs.Adst.{adstIn, adstOut, arrays, onT, eight2, eight3, eight4, eight5, eight6, eight7, eight9, adst8Steps}
+use Rattle.steps.specs.Step2.{Arrays, Step2, step2, fresh}
+use Rattle.steps.specs.Inner.{Fine2}
+use Rattle.adst.specs.Adst.{adstIn, adstOut, onT, eight2, eight3, eight4, eight5, eight6, eight7, eight9, adst8Steps}
+use Rattle.adst.specs.Inner.{arrays}
 use Rattle.adst.proofs.Lift.{on-ok, left-on, last-on}
 use Rattle.adst.proofs.inverse_adst8.Statement.{statement}
 use Rattle.adst.proofs.inverse_adst8.Tie as tie

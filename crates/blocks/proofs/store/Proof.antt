@@ -6,9 +6,9 @@ use native.Mathlib.Omega.{arith}
 use borrow.Author.Needs.{needs}
 use lib.IntN.{pos}
 use lib.ListN.{length, length-set, getD, set}
-use Rattle.whole.specs.Loops.{times}
+use Rattle.whole.specs.Inner.{times}
 use Rattle.whole.proofs.Loops.{loops, times-more}
-use Rattle.blocks.specs.Block.{put}
+use Rattle.blocks.specs.Inner.{setLine}
 use Rattle.blocks.proofs.store.Statement.{statement}
 use Rattle.blocks.proofs.store.Tie as tie
 use Rattle.blocks.proofs.store.Reads as reads
@@ -75,7 +75,7 @@ same-length c = search needs
 
 -- src/lib.rt:20:1
 returns : tie.Need-returns Inv-loop μ-loop
-unfolding put
+unfolding setLine
 returns c = search (needs, loops)
 
 pub store-spec : {M : Type 1} → statement M

@@ -6,10 +6,10 @@ use lib.IntN.{pos}
 use lib.ListN.{length, length-set, getD, set}
 use mir.Syntax.{w64}
 use mir.Facts.{toZ-ofZ}
-use Rattle.whole.specs.Loops.{times}
+use Rattle.whole.specs.Inner.{times}
 use Rattle.whole.specs.Round.{Round2}
 use Rattle.whole.proofs.Loops.{loops, times-more}
-use Rattle.blocks.specs.Block.{put}
+use Rattle.blocks.specs.Inner.{setLine}
 use Rattle.blocks.proofs.store_rounded.Statement.{statement}
 use Rattle.blocks.proofs.store_rounded.Tie as tie
 use Rattle.blocks.proofs.store_rounded.Reads as reads
@@ -88,7 +88,7 @@ same-length c = search needs
 
 -- src/lib.rt:30:1
 returns : tie.Need-returns Inv-loop μ-loop
-unfolding put
+unfolding setLine
 returns c = search (needs, loops)
 
 pub store-rounded-spec : {M : Type 1} → statement M

@@ -5,9 +5,11 @@ use mathlib.Core.Logic.{⊎-elim}
 use Prim.Native.Nat.{ℕ, _-_, _≤_, _<_, _^_}
 use native.Mathlib.Omega.{arith}
 use lib.IntN.{ℤ, pos}
-use Rattle.whole.specs.Steps.{_⨾_, run, Ok, Left}
-use Rattle.whole.proofs.Steps.{ok-here, left-all, left-first, left-stage, left-last}
-use Rattle.steps.specs.Step.{Bf, step, Fine}
+use Rattle.whole.specs.Steps.{_⨾_, run}
+use Rattle.whole.specs.Inner.{Ok}
+use Rattle.whole.proofs.Steps.{Left, ok-here, left-all, left-first, left-stage, left-last}
+use Rattle.steps.specs.Step.{Bf, step}
+use Rattle.steps.specs.Inner.{Fine}
 use Rattle.dct.specs.Dct.{tail, dctSteps}
 use Rattle.dct.proofs.Dct.{dct-more, dct-first}
 use borrow.Fn.Kinds.{In}

@@ -1,9 +1,10 @@
 use mathlib.Core.List.{List}
 use Prim.Native.Nat.{_^_}
 use borrow.Author.Tests.{ne-eqb}
-use Rattle.whole.specs.Steps.{_⨾_, run, each, Left}
-use Rattle.whole.proofs.Steps.{run-skip, left-all, left-stage, left-first, left-last}
-use Rattle.steps.specs.Step.{Step, step, Fine}
+use Rattle.whole.specs.Steps.{_⨾_, run, each}
+use Rattle.whole.proofs.Steps.{Left, run-skip, left-all, left-stage, left-first, left-last}
+use Rattle.steps.specs.Step.{Step, step}
+use Rattle.steps.specs.Inner.{Fine}
 use Rattle.dct.specs.Dct.{turn4a, turn4b, steps4}
 use Rattle.dct.proofs.Dct.{steps4-five}
 use Rattle.dct.proofs.stage4.Statement.{statement}

@@ -2,9 +2,10 @@ use mathlib.Core.Path.{_∙_}
 use mathlib.Core.List.{List}
 use Prim.Native.Nat.{ℕ, _-_, _+_, _*_, _/_, _^_}
 use borrow.Author.Tests.{le-leb, lt-leb}
-use Rattle.whole.specs.Steps.{_⨾_, run, each, Left}
-use Rattle.whole.proofs.Steps.{ok-when, run-when, run-skip, left-all, left-stage, left-first, left-last}
-use Rattle.steps.specs.Step.{Step, step, Fine}
+use Rattle.whole.specs.Steps.{_⨾_, run, each}
+use Rattle.whole.proofs.Steps.{Left, ok-when, run-when, run-skip, left-all, left-stage, left-first, left-last}
+use Rattle.steps.specs.Step.{Step, step}
+use Rattle.steps.specs.Inner.{Fine}
 use Rattle.dct.specs.Dct.{turn5a, turn5b, steps5}
 use Rattle.dct.proofs.stage5.Statement.{statement}
 use Rattle.dct.proofs.stage5.Tie as tie

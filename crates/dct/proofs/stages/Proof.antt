@@ -1,9 +1,10 @@
 use mathlib.Core.List.{List}
 use Prim.Native.Nat.{ℕ, _^_}
 use borrow.Author.Needs.{needs}
-use Rattle.whole.specs.Steps.{_⨾_, run, Left}
-use Rattle.whole.proofs.Steps.{left-all, left-stage, left-first, left-last}
-use Rattle.steps.specs.Step.{Step, step, Fine}
+use Rattle.whole.specs.Steps.{_⨾_, run}
+use Rattle.whole.proofs.Steps.{Left, left-all, left-stage, left-first, left-last}
+use Rattle.steps.specs.Step.{Step, step}
+use Rattle.steps.specs.Inner.{Fine}
 use Rattle.dct.specs.Dct.{steps2, steps3, steps4, steps5, steps6, steps7, tailAt, tail}
 use Rattle.dct.proofs.stages.Statement.{statement}
 use Rattle.dct.proofs.stages.Tie as tie

@@ -5,9 +5,11 @@ use mathlib.Core.List.{List, [], _∷_}
 use Prim.Native.Nat.{ℕ, _^_}
 use lib.Dec.{lit<}
 use lib.IntN.{ℤ, pos}
-use Rattle.whole.specs.Steps.{run, each, when, Ok}
+use Rattle.whole.specs.Steps.{run, each, when}
+use Rattle.whole.specs.Inner.{Ok}
 use Rattle.primitives.specs.Brev.{Brev}
-use Rattle.steps.specs.Step.{Step, Bf, Hd, A4, step, Fine}
+use Rattle.steps.specs.Step.{Step, Bf, Hd, A4, step}
+use Rattle.steps.specs.Inner.{Fine}
 use Rattle.dct.specs.Dct.{tail, tailAt, steps2, steps3, steps4, steps5, steps6, steps7}
 use Rattle.flat.proofs.Straight.{Done, begin, call, next, end}
 use Rattle.flat.proofs.dct_level3.Statement.{statement}

@@ -8,7 +8,7 @@ use borrow.Author.Needs.{needs}
 use Rattle.whole.specs.Round.{Round2}
 use Rattle.whole.proofs.Signed.{rd, rd-ok}
 use Rattle.whole.proofs.Within.{within-le}
-use Rattle.primitives.specs.Rotations.{applyB, put, turnX, turnY}
+use Rattle.primitives.specs.Rotations.{applyB, setPair, turnX, turnY}
 use Rattle.steps.specs.Step.{step}
 use Rattle.flat.proofs.Three.{turnX-within, turnY-within, rotated}
 use Rattle.flat.proofs.fb.Statement.{statement}
@@ -45,11 +45,11 @@ round2-requires-2 c κs =
     (lit≤ tt, lit≤ tt, rw (y-is (c .before .before)) (within-le (lit≤ tt) (turnY-within (s .args .angle) (s .pre .2) (s .pre .3))))
 
 returns : tie.Need-returns
-unfolding step applyB put
+unfolding step applyB setPair
 returns c = rw (c .if1 .taken, x-rounded (c .before), y-rounded (c .before))
 
 returns-2 : tie.Need-returns-2
-unfolding step applyB put
+unfolding step applyB setPair
 returns-2 c = rw (c .if1 .left, x-rounded (c .before), y-rounded (c .before))
 
 pub fb-spec : {M : Type 1} → statement M

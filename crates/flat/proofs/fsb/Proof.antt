@@ -5,7 +5,7 @@ use lib.ListN.{getD}
 use mir.Syntax.{w64}
 use borrow.Author.Needs.{needs}
 use Rattle.whole.proofs.Signed.{rd}
-use Rattle.primitives.specs.Rotations.{applySB, put, turnX, turnY}
+use Rattle.primitives.specs.Rotations.{applySB, setPair, turnX, turnY}
 use Rattle.steps.specs.Step2.{step2}
 use Rattle.flat.proofs.Three.{rotated}
 use Rattle.flat.proofs.fsb.Statement.{statement}
@@ -25,11 +25,11 @@ y-is : (c : tie.After-struct-told) → rd w64 (c .before .turn .result .y) ≡ o
 y-is c = let s = start (c .before) in rotated turnY (c .struct-told .given .1 .0 .1) (s .pre .2) (s .pre .3) (s .fits .angle) (c .before .turn .ensures .1)
 
 returns : tie.Need-returns
-unfolding step2 applySB put
+unfolding step2 applySB setPair
 returns c = rw (c .if1 .taken, x-is (c .before .before), y-is (c .before .before))
 
 returns-2 : tie.Need-returns-2
-unfolding step2 applySB put
+unfolding step2 applySB setPair
 returns-2 c = rw (c .if1 .left, x-is (c .before .before), y-is (c .before .before))
 
 pub fsb-spec : {M : Type 1} → statement M

@@ -4,7 +4,7 @@ use mathlib.Core.List.{List}
 use lib.IntN.{ℤ}
 use borrow.Author.Needs.{needs}
 use Rattle.steps.specs.Step2.{step2}
-use Rattle.adst.specs.Adst.{arrays}
+use Rattle.adst.specs.Inner.{arrays}
 use Rattle.flat.proofs.fsh.Statement.{statement}
 use Rattle.flat.proofs.fsh.Tie as tie
 

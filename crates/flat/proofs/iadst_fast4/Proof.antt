@@ -9,7 +9,8 @@ use borrow.Author.Needs.{needs}
 use Rattle.whole.specs.Round.{Round2}
 use Rattle.whole.proofs.Signed.{C, loc, lit, _⊕_, _⊖_, _⊗_, val, code, rd-ok, fits, within, value}
 use Rattle.whole.specs.Within.{Within}
-use Rattle.steps.specs.Step.{FourWithin, adst4}
+use Rattle.steps.specs.Step.{adst4}
+use Rattle.steps.specs.Inner.{FourWithin}
 use Rattle.adst.proofs.Adst.{four-is}
 use Rattle.flat.proofs.Four.{sum0-is, sum1-is, last-within, four-within}
 use Rattle.flat.proofs.iadst_fast4.Statement.{statement}

@@ -6,10 +6,13 @@ use Prim.Native.Nat.{ℕ, _^_}
 use lib.Dec.{lit<}
 use lib.IntN.{ℤ, pos, negsuc}
 use lib.ListN.{replicate}
-use Rattle.whole.specs.Steps.{run, each, Ok}
+use Rattle.whole.specs.Steps.{run, each}
+use Rattle.whole.specs.Inner.{Ok}
 use Rattle.steps.specs.Step.{Bf, Hd, Neg, Move, A4}
-use Rattle.steps.specs.Step2.{Arrays, Step2, on, SB, SH, step2, fresh, Fine2}
-use Rattle.adst.specs.Adst.{arrays, adstIn, adstOut, onT, adst8Steps, adstSteps, adst}
+use Rattle.steps.specs.Step2.{Arrays, Step2, on, SB, SH, step2, fresh}
+use Rattle.steps.specs.Inner.{Fine2}
+use Rattle.adst.specs.Adst.{adstIn, adstOut, onT, adst8Steps, adstSteps, adst}
+use Rattle.adst.specs.Inner.{arrays}
 use Rattle.flat.proofs.Straight.{Done, begin, call, next, end}
 use Rattle.flat.proofs.Arrays.{next-T}
 use Rattle.flat.proofs.iadst_fast8.Statement.{statement}

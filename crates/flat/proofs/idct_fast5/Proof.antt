@@ -6,10 +6,12 @@ use Prim.Native.Nat.{ℕ, _^_}
 use borrow.Author.Needs.{needs}
 use lib.Dec.{lit≤, lit<}
 use lib.IntN.{ℤ, pos}
-use Rattle.whole.specs.Steps.{run, each, when, Ok}
+use Rattle.whole.specs.Steps.{run, each, when}
+use Rattle.whole.specs.Inner.{Ok}
 use Rattle.whole.proofs.Steps.{ok-here}
 use Rattle.primitives.specs.Brev.{Brev}
-use Rattle.steps.specs.Step.{Step, Bf, Move, step, Fine}
+use Rattle.steps.specs.Step.{Step, Bf, Move, step}
+use Rattle.steps.specs.Inner.{Fine}
 use Rattle.dct.specs.Dct.{dct, dctRow, dctSteps, tail, tailAt, steps2, steps3, steps4, steps5, steps6, steps7}
 use Rattle.flat.proofs.Straight.{Done, begin, call, next, end, joined, run-joined, ok-joined, alone}
 use Rattle.flat.proofs.Table.{brevs, brev-place, brev-move}

@@ -3,11 +3,11 @@ use Prim.Native.Nat.{_-_, _≤_}
 use native.Mathlib.Omega.{arith}
 use borrow.Author.Needs.{needs}
 use lib.ListN.{length}
-use Rattle.whole.specs.Loops.{times}
+use Rattle.whole.specs.Inner.{times}
 use Rattle.whole.proofs.Loops.{times-none, times-more, times-done}
-use Rattle.blocks.specs.Block.{on}
+use Rattle.blocks.specs.Inner.{changeLine}
 use Rattle.blocks.proofs.Blocks.{columns-loop}
-use Rattle.blocks.proofs.Lines.{on-length}
+use Rattle.blocks.proofs.Lines.{changeLine-length}
 use Rattle.wht.specs.Wht.{wht}
 use Rattle.fwd_transform.proofs.Wht.{column-fine}
 use Rattle.fwd_transform.proofs.wht_columns.Statement.{statement}
@@ -15,7 +15,7 @@ use Rattle.fwd_transform.proofs.wht_columns.Tie as tie
 
 -- after j columns
 abbrev Inv-loop : tie.InvT-loop
-Inv-loop block₀ j₀ block j = (j ≤ 4) × (length block ≡ 16) × (block ≡ times j (λ j. on (wht 0) (λ z. z) j 4 4) block₀)
+Inv-loop block₀ j₀ block j = (j ≤ 4) × (length block ≡ 16) × (block ≡ times j (λ j. changeLine (wht 0) (λ z. z) j 4 4) block₀)
 
 abbrev μ-loop : tie.MeasureT-loop
 μ-loop block₀ j₀ block j = 4 - j
@@ -33,7 +33,7 @@ loop-again : tie.Need-loop-again Inv-loop μ-loop
 loop-again c =
     let l = c .before .before .before .before .loop in
     let e = c .before .wht-line .ensures in
-    (omega arith, ap length e ∙ on-length (wht 0) (λ z. z) (l .j) 4 4 (l .block) ∙ l .inv .1, times-more _ (l .j) _ (l .inv .2) e)
+    (omega arith, ap length e ∙ changeLine-length (wht 0) (λ z. z) (l .j) 4 4 (l .block) ∙ l .inv .1, times-more _ (l .j) _ (l .inv .2) e)
 
 returns : tie.Need-returns Inv-loop μ-loop
 returns c =

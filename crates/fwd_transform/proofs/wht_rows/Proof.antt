@@ -3,11 +3,11 @@ use Prim.Native.Nat.{_*_, _-_, _≤_}
 use native.Mathlib.Omega.{arith}
 use borrow.Author.Needs.{needs}
 use lib.ListN.{length}
-use Rattle.whole.specs.Loops.{times}
+use Rattle.whole.specs.Inner.{times}
 use Rattle.whole.proofs.Loops.{times-none, times-more, times-done}
-use Rattle.blocks.specs.Block.{on}
+use Rattle.blocks.specs.Inner.{changeLine}
 use Rattle.blocks.proofs.Blocks.{rows-loop}
-use Rattle.blocks.proofs.Lines.{on-length}
+use Rattle.blocks.proofs.Lines.{changeLine-length}
 use Rattle.wht.specs.Wht.{wht}
 use Rattle.fwd_transform.proofs.Wht.{row-fine}
 use Rattle.fwd_transform.proofs.wht_rows.Statement.{statement}
@@ -15,7 +15,7 @@ use Rattle.fwd_transform.proofs.wht_rows.Tie as tie
 
 -- after i rows
 abbrev Inv-loop : tie.InvT-loop
-Inv-loop block₀ i₀ block i = (i ≤ 4) × (length block ≡ 16) × (block ≡ times i (λ i. on (wht 0) (λ z. z) (i * 4) 1 4) block₀)
+Inv-loop block₀ i₀ block i = (i ≤ 4) × (length block ≡ 16) × (block ≡ times i (λ i. changeLine (wht 0) (λ z. z) (i * 4) 1 4) block₀)
 
 abbrev μ-loop : tie.MeasureT-loop
 μ-loop block₀ i₀ block i = 4 - i
@@ -33,7 +33,7 @@ loop-again : tie.Need-loop-again Inv-loop μ-loop
 loop-again c =
     let l = c .before .before .before .before .loop in
     let e = c .before .wht-line .ensures in
-    (omega arith, ap length e ∙ on-length (wht 0) (λ z. z) (l .i * 4) 1 4 (l .block) ∙ l .inv .1, times-more _ (l .i) _ (l .inv .2) e)
+    (omega arith, ap length e ∙ changeLine-length (wht 0) (λ z. z) (l .i * 4) 1 4 (l .block) ∙ l .inv .1, times-more _ (l .i) _ (l .inv .2) e)
 
 returns : tie.Need-returns Inv-loop μ-loop
 returns c =

@@ -1,7 +1,8 @@
 use mathlib.Core.Path.{_≡_, sym, _∙_}
 use borrow.Author.Needs.{needs}
 use lib.ListN.{length}
-use Rattle.idct.specs.Driver.{Input, shapeOf}
+use Rattle.idct.specs.Driver.{Input}
+use Rattle.idct.specs.Inner.{shapeOf}
 use Rattle.idct.proofs.Answers.{large-fine, as-lossy, refused, driven-made, driven-left}
 use Rattle.idct.proofs.inverse_transform_2d.Statement.{statement}
 use Rattle.idct.proofs.inverse_transform_2d.Tie as tie
@@ -20,8 +21,8 @@ returns c = let m = c .before .before .before in rw (m .if1 .taken) (c .before .
 returns-2 : tie.Need-returns-2
 returns-2 c = refused (given (c .before .before .before .before)) _ (c .before .before .shape .ensures) (λ z. c .if2 .taken (c .before .code .ensures ∙ z))
 
-tried-large-requires : tie.Need-tried-large-requires
-tried-large-requires c κs =
+try-larger-requires : tie.Need-try-larger-requires
+try-larger-requires c κs =
     let e = c .before in
     let u = given (e .before .before .before .before) in
     large-fine (u .block) (u .n) (u .tx-type) (u .lossless) (passed e) (e .before .before .before .if1 .left)
@@ -30,7 +31,7 @@ returns-3 : tie.Need-returns-3
 returns-3 c =
     let e = c .before .before .before .before in
     let u = given (e .before .before .before .before) in
-    driven-made u (passed e) (c .if3 .taken) (as-lossy (u .block) (u .n) (u .tx-type) (u .lossless) (passed e) (e .before .before .before .if1 .left) (c .before .before .tried-large .ensures))
+    driven-made u (passed e) (c .if3 .taken) (as-lossy (u .block) (u .n) (u .tx-type) (u .lossless) (passed e) (e .before .before .before .if1 .left) (c .before .before .try-larger .ensures))
 
 returns-4 : tie.Need-returns-4
 returns-4 c =
@@ -38,7 +39,7 @@ returns-4 c =
     let t = w .before .before in
     let e = t .before .before in
     let u = given (e .before .before .before .before) in
-    driven-left u (w .if3 .left) (as-lossy (u .block) (u .n) (u .tx-type) (u .lossless) (passed e) (e .before .before .before .if1 .left) (t .tried-large .ensures))
+    driven-left u (w .if3 .left) (as-lossy (u .block) (u .n) (u .tx-type) (u .lossless) (passed e) (e .before .before .before .if1 .left) (t .try-larger .ensures))
     (c .before .inverse-transform-2d-reference .ensures)
 
 pub inverse-transform-2d-spec : {M : Type 1} → statement M
@@ -51,7 +52,7 @@ inverse-transform-2d-spec =
     (λ c κs. search needs)
     (λ c κs. search needs)
     returns-2
-    tried-large-requires
+    try-larger-requires
     (λ c. search needs)
     returns-3
     (λ c κs. search needs)

@@ -11,12 +11,14 @@ use Rattle.answers.specs.declared.Answer.the-variants.{Done, Coefficient}
 use Rattle.answers.specs.Bad.{anyBeyond}
 use Rattle.answers.specs.Limits.{COEF_LIMIT}
 use Rattle.blocks.specs.Block.{rows, columns, rowsThenColumns}
-use Rattle.blocks.specs.Inverse.{apply, rowPass, columnPass, rounding, inverse2d, Possible}
+use Rattle.blocks.specs.Inverse.{apply, rowPass, columnPass, rounding, inverse2d}
+use Rattle.blocks.specs.Inner.{Possible}
 use Rattle.blocks.proofs.Passes.{row-valid}
 use Rattle.blocks.proofs.Blocks.{rows-length}
 use Rattle.blocks.proofs.Inverse.{rows-within}
 use Rattle.answers.specs.Sizes.{area}
-use Rattle.idct.specs.Driver.{Input, shapeOf}
+use Rattle.idct.specs.Driver.{Input}
+use Rattle.idct.specs.Inner.{shapeOf}
 use Rattle.idct.proofs.Answers.{possible, refused, driven, over, under, in-range}
 use Rattle.idct.proofs.inverse_transform_2d_reference.Statement.{statement}
 use Rattle.idct.proofs.inverse_transform_2d_reference.Tie as tie

@@ -5,7 +5,8 @@ use native.Mathlib.Nat.{mul-le-mul}
 use native.Mathlib.Omega.{arith}
 use borrow.Author.Tests.{lt-ltb, le-ltb}
 use Rattle.answers.specs.Bad.{badLossless, badTxType}
-use Rattle.idct.specs.Driver.{badSide, shapeOf}
+use Rattle.idct.specs.Driver.{badSide}
+use Rattle.idct.specs.Inner.{shapeOf}
 use Rattle.idct.proofs.Answers.{side-range}
 use borrow.Author.Needs.{needs}
 use Rattle.idct.proofs.shape.Statement.{statement}

@@ -1,7 +1,8 @@
 use mathlib.Core.Path.{_≡_, sym, _∙_}
 use borrow.Author.Needs.{needs}
 use lib.ListN.{length}
-use Rattle.idct.specs.Driver.{Input, shapeOf}
+use Rattle.idct.specs.Driver.{Input}
+use Rattle.idct.specs.Inner.{shapeOf}
 use Rattle.idct.proofs.Answers.{possible, refused, driven-made, driven-left}
 use Rattle.idct.proofs.small.Statement.{statement}
 use Rattle.idct.proofs.small.Tie as tie
@@ -17,19 +18,19 @@ passed c = sym (c .before .code .ensures ∙ c .before .before .shape .ensures) 
 returns : tie.Need-returns
 returns c = refused (given (c .before .before .before)) _ (c .before .before .shape .ensures) (λ z. c .if1 .taken (c .before .code .ensures ∙ z))
 
-tried-small-requires : tie.Need-tried-small-requires
-tried-small-requires c κs =
+try-4-requires : tie.Need-try-4-requires
+try-4-requires c κs =
     let u = given (c .before .before .before .before) in
     possible (length (u .block)) (u .n) (u .tx-type) (u .lossless) (passed (c .before)) .1
 
 returns-2 : tie.Need-returns-2
-returns-2 c = let e = c .before .before .before .before in driven-made (given (e .before .before .before)) (passed e) (c .if2 .taken) (c .before .before .tried-small .ensures)
+returns-2 c = let e = c .before .before .before .before in driven-made (given (e .before .before .before)) (passed e) (c .if2 .taken) (c .before .before .try-4 .ensures)
 
 returns-3 : tie.Need-returns-3
 returns-3 c =
     let w = c .before .before .before in
     let t = w .before .before in
-    driven-left (given (t .before .before .before .before .before)) (w .if2 .left) (t .tried-small .ensures) (c .before .inverse-transform-2d-reference .ensures)
+    driven-left (given (t .before .before .before .before .before)) (w .if2 .left) (t .try-4 .ensures) (c .before .inverse-transform-2d-reference .ensures)
 
 pub small-spec : {M : Type 1} → statement M
 small-spec =
@@ -38,7 +39,7 @@ small-spec =
     (λ c κs. search needs)
     (λ c κs. search needs)
     returns
-    tried-small-requires
+    try-4-requires
     (λ c. search needs)
     returns-2
     (λ c κs. search needs)

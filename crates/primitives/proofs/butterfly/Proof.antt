@@ -6,12 +6,12 @@ use mir.Facts.{toZ-ofZ}
 use borrow.Author.Needs.{needs}
 use Rattle.whole.proofs.Signed.{rd-ok}
 use Rattle.whole.proofs.Within.{back}
-use Rattle.primitives.specs.Rotations.{applyB, put}
+use Rattle.primitives.specs.Rotations.{applyB, setPair}
 use Rattle.primitives.proofs.butterfly.Statement.{statement}
 use Rattle.primitives.proofs.butterfly.Tie as tie
 
 returns : tie.Need-returns
-unfolding applyB put
+unfolding applyB setPair
 returns c =
     let s = c .before .before .before .before .before .before in
     let r = c .before .before .before .turn in
@@ -24,7 +24,7 @@ returns c =
     rw (x, y, c .if1 .taken)
 
 returns-2 : tie.Need-returns-2
-unfolding applyB put
+unfolding applyB setPair
 returns-2 c =
     let s = c .before .before .before .before .before .before in
     let r = c .before .before .before .turn in

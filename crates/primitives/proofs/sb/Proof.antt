@@ -1,7 +1,7 @@
 use mir.Syntax.{w64}
 use mir.Facts.{toZ-ofZ}
 use borrow.Author.Needs.{needs}
-use Rattle.primitives.specs.Rotations.{applySB, put, turnX, turnY}
+use Rattle.primitives.specs.Rotations.{applySB, setPair, turnX, turnY}
 use Rattle.whole.proofs.Signed.{fits, value, C, _⊕_, _⊖_, _⊗_, loc}
 use Rattle.primitives.proofs.sb.Statement.{statement}
 use Rattle.primitives.proofs.sb.Tie as tie
@@ -32,7 +32,7 @@ add-y : tie.Need-add-y
 add-y c = fits w64 (ys c) tt
 
 returns : tie.Need-returns
-unfolding applySB put turnX turnY
+unfolding applySB setPair turnX turnY
 returns c =
     let z = c .before in
     let s = z .before .before .before .before in
@@ -41,7 +41,7 @@ returns c =
     rw (value w64 (ys z) tt, value w64 (xs z) tt, e, k, c .if1 .taken)
 
 returns-2 : tie.Need-returns-2
-unfolding applySB put turnX turnY
+unfolding applySB setPair turnX turnY
 returns-2 c =
     let z = c .before in
     let s = z .before .before .before .before in

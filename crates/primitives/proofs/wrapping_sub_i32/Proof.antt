@@ -9,7 +9,7 @@ use mir.Syntax.{w32, w64}
 use mir.Val.{SFits}
 use mir.Facts.{toZ-ofZ}
 use Rattle.primitives.proofs.Cosine.{wrap-in, wrap-less, wrap-more}
-use Rattle.primitives.specs.Cosine.{wrap32}
+use Rattle.primitives.specs.Inner.{wrap32}
 use Rattle.whole.proofs.Parts.{ltZ-false, ltZ-true, sum-parts}
 use Rattle.whole.proofs.Within.{back, sfits-N, sfits-P, sfits-parts, within-add, within-lit, within-sfits, within-sub}
 use Rattle.whole.proofs.Signed.{rd}

@@ -50,7 +50,7 @@ reconstruct-n-requires : tie.Need-reconstruct-n-requires
 reconstruct-n-requires c κs =
     let s = c .before .before .before .before .before in
     let a = s .args in
-    (s .pre .0, lossy-taken (a .size) (a .dc-quant) (a .ac-quant) (a .tx-type) (a .lossless) (a .tokens .now) (lossy (c .before .before .before)) (s .pre .1))
+    (s .pre .0, lossy-taken (a .size) (a .dc-quant) (a .ac-quant) (a .tx-type) (a .lossless) (a .tokens .now) (lossy (c .before .before .before)) (s .pre .1), omega (arith, c .before .before .before .if1 .left))
 
 returns-3 : tie.Need-returns-3
 returns-3 c =

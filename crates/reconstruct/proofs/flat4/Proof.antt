@@ -7,7 +7,7 @@ use mir.Syntax.{w64}
 use mir.ValLaws.{toZ-ofZ}
 use borrow.Author.Needs.{needs}
 use Rattle.whole.proofs.Signed.{rd, rd-ok}
-use Rattle.blocks.specs.Inverse.{dcOnly}
+use Rattle.blocks.specs.Inner.{dcValue}
 use Rattle.reconstruct.proofs.Residual.{by-flat}
 use Rattle.reconstruct.proofs.flat4.Statement.{statement}
 use Rattle.reconstruct.proofs.flat4.Tie as tie
@@ -18,12 +18,12 @@ dc-value-requires c κs =
     rw (toZ-ofZ w64 (getD (s .args .block .now) 0 (pos 0)) (record { sfits = c .dc-value-arg .given })) (omega arith, omega arith, s .pre .1 .each 0 (omega arith))
 
 -- the one number, and sixteen of it
-value : (c : tie.After-dc-value) → rd w64 (c .dc-value .result) ≡ dcOnly 2 (getD (c .before .before .args .block .now) 0 (pos 0))
+value : (c : tie.After-dc-value) → rd w64 (c .dc-value .result) ≡ dcValue 2 (getD (c .before .before .args .block .now) 0 (pos 0))
 value c =
     let b = c .before .before .args .block .now in
     rd-ok w64 {z = c .dc-value .result} (c .dc-value .ok) ∙ rw (toZ-ofZ w64 (getD b 0 (pos 0)) (record { sfits = c .before .dc-value-arg .given })) at (c .dc-value .ensures)
 
-all : (c : tie.After-sixteen-of) → c .sixteen-of .result ≡ replicate 16 (dcOnly 2 (getD (c .before .before .before .args .block .now) 0 (pos 0)))
+all : (c : tie.After-sixteen-of) → c .sixteen-of .result ≡ replicate 16 (dcValue 2 (getD (c .before .before .before .args .block .now) 0 (pos 0)))
 all c = c .sixteen-of .ensures ∙ ap (replicate 16) (value (c .before))
 
 returns : tie.Need-returns

@@ -10,7 +10,7 @@ use mir.ValLaws.{toZ-ofZ}
 use Rattle.whole.proofs.Signed.{rd, rd-ok}
 use Rattle.quant.specs.Token.{dequant}
 use Rattle.whole.proofs.Within.{within-abs}
-use Rattle.blocks.specs.Inverse.{dcOnly}
+use Rattle.blocks.specs.Inner.{dcValue}
 use borrow.Author.Needs.{needs}
 use Rattle.plane.proofs.Block.{same-residuals}
 use Rattle.answers.specs.Sizes.{side}
@@ -36,18 +36,18 @@ dc-value-requires c κs =
 
 -- and the one number of the residual
 value : (c : tie.After-dc-value) → let a = c .before .before .before .before .before .args in
-    rd w64 (c .dc-value .result) ≡ dcOnly (a .size + 2) (dequant (a .size) (a .dc-quant .0) (a .token))
+    rd w64 (c .dc-value .result) ≡ dcValue (a .size + 2) (dequant (a .size) (a .dc-quant .0) (a .token))
 value c = rd-ok w64 {z = c .dc-value .result} (c .dc-value .ok) ∙ rw (first (c .before .before)) at (c .dc-value .ensures)
 
 row : (c : tie.After-row-of) → let a = c .before .before .before .before .before .before .args in
-    c .row-of .result ≡ replicate 32 (dcOnly (a .size + 2) (dequant (a .size) (a .dc-quant .0) (a .token)))
+    c .row-of .result ≡ replicate 32 (dcValue (a .size + 2) (dequant (a .size) (a .dc-quant .0) (a .token)))
 row c = c .row-of .ensures ∙ ap (replicate 32) (value (c .before))
 
 add-back-requires : tie.Need-add-back-requires
 add-back-requires c κs =
     let s = c .before .before .before .before .before .before .before .before .before in
     let a = s .args in
-    let v = dcOnly (a .size + 2) (dequant (a .size) (a .dc-quant .0) (a .token)) in
+    let v = dcValue (a .size + 2) (dequant (a .size) (a .dc-quant .0) (a .token)) in
     let h = side-most (a .size) (s .pre .1) in
     rw (row (c .before .before .before), c .side .ensures) (
       s .pre .0,
@@ -61,7 +61,7 @@ returns : tie.Need-returns
 returns c =
     let s = c .before .before .before .before .before .before .before .before .before .before .before .before in
     let a = s .args in
-    let v = dcOnly (a .size + 2) (dequant (a .size) (a .dc-quant .0) (a .token)) in
+    let v = dcValue (a .size + 2) (dequant (a .size) (a .dc-quant .0) (a .token)) in
     let h = side-most (a .size) (s .pre .1) in
     c .before .before .add-back .ensures
     ∙ rw (row (c .before .before .before .before .before .before), c .before .before .before .side .ensures)

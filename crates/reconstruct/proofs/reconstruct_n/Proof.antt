@@ -49,6 +49,7 @@ both-passes-requires c κs =
     let a = s .args in
     let t = s .pre .1 in
     rw (coefs (c .before)) (
+      omega (arith, s .pre .2),
       t .possible,
       block-room (a .size) (a .dc-quant) (a .ac-quant) (a .tx-type) false (a .tokens .now) t,
       block-within (a .size) (a .dc-quant) (a .ac-quant) (a .tx-type) false (a .tokens .now) t,

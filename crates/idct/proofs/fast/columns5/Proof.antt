@@ -3,7 +3,8 @@ use native.Mathlib.Omega.{arith}
 use borrow.Author.Needs.{needs}
 use Rattle.whole.specs.Round.{Round2}
 use Rattle.blocks.specs.Block.{columns}
-use Rattle.blocks.specs.Inverse.{Dct, apply, Safe}
+use Rattle.blocks.specs.Inverse.{Dct, apply}
+use Rattle.blocks.specs.Inner.{Safe}
 use Rattle.blocks.proofs.Turns.{Job, columns-job, Turn, turn-none, turn-safe, turn-grown, turn-next, turn-done}
 use Rattle.idct.proofs.fast.columns5.Statement.{statement}
 use Rattle.idct.proofs.fast.columns5.Tie as tie

@@ -5,7 +5,7 @@ use mir.Syntax.{w64}
 use mir.Val.{toZ, ofZ}
 use Rattle.whole.specs.Lists.{fill}
 use Rattle.whole.proofs.Signed.{rd-ok}
-use Rattle.blocks.specs.Inverse.{dcOnly}
+use Rattle.blocks.specs.Inner.{dcValue}
 use borrow.Author.Needs.{needs}
 use Rattle.idct.proofs.fast.dc_fill.Statement.{statement}
 use Rattle.idct.proofs.fast.dc_fill.Tie as tie
@@ -26,8 +26,8 @@ returns : tie.Need-returns
 returns c =
     let d = c .before .before .before in
     let s = d .before .before in
-    let v : toZ w64 (ofZ w64 (d .dc-value .result)) ≡ dcOnly (s .args .n) (getD (s .args .block .now) 0 (pos 0)) =
-    rd-ok w64 (d .dc-value .ok) ∙ d .dc-value .ensures ∙ ap (dcOnly (s .args .n)) (rd-ok w64 (d .before .dc-value-arg .given)) in
+    let v : toZ w64 (ofZ w64 (d .dc-value .result)) ≡ dcValue (s .args .n) (getD (s .args .block .now) 0 (pos 0)) =
+    rd-ok w64 (d .dc-value .ok) ∙ d .dc-value .ensures ∙ ap (dcValue (s .args .n)) (rd-ok w64 (d .before .dc-value-arg .given)) in
     c .before .fill-first .ensures ∙ ap (λ (x : ℤ). fill (s .args .count) (λ k. x) (s .args .block .now)) v
 
 pub dc-fill-spec : {M : Type 1} → statement M

@@ -10,8 +10,8 @@ use Rattle.whole.proofs.Signed.{loc, lit, _⊗_, rd-ok, fits, value, within}
 use Rattle.whole.specs.Within.{Within}
 use Rattle.whole.proofs.Round.{round2-within}
 use Rattle.whole.proofs.Within.{within-le, within-mul, within-lit}
-use Rattle.steps.specs.Step.{turned}
-use Rattle.blocks.specs.Inverse.{dcOnly}
+use Rattle.steps.specs.Inner.{turned}
+use Rattle.blocks.specs.Inner.{dcValue}
 use Rattle.idct.proofs.fast.dc_value.Statement.{statement}
 use Rattle.idct.proofs.fast.dc_value.Tie as tie
 
@@ -53,7 +53,7 @@ round2-requires-3 : tie.Need-round2-requires-3
 round2-requires-3 c κs = (search needs, search needs, within w64 (2 ^ 62) (loc (column (c .before))) tt tt)
 
 returns : tie.Need-returns
-unfolding dcOnly
+unfolding dcValue
 returns c =
     let column-of = c .before .before in
     rd-ok w64 (c .round23 .ok)

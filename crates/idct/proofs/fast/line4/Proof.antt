@@ -1,4 +1,5 @@
-use Rattle.blocks.specs.Inverse.{apply, Safe}
+use Rattle.blocks.specs.Inverse.{apply}
+use Rattle.blocks.specs.Inner.{Safe}
 use Rattle.idct.proofs.fast.line4.Statement.{statement}
 use Rattle.idct.proofs.fast.line4.Tie as tie
 

@@ -4,7 +4,8 @@ use Prim.Native.Nat.{_*_, _-_}
 use native.Mathlib.Omega.{arith}
 use borrow.Author.Needs.{needs}
 use Rattle.blocks.specs.Block.{rows}
-use Rattle.blocks.specs.Inverse.{Dct, apply, Safe}
+use Rattle.blocks.specs.Inverse.{Dct, apply}
+use Rattle.blocks.specs.Inner.{Safe}
 use Rattle.blocks.proofs.Turns.{Job, rows-job, Turn, turn-none, turn-safe, turn-next, turn-skip, turn-done}
 use Rattle.idct.proofs.fast.rows5.Statement.{statement}
 use Rattle.idct.proofs.fast.rows5.Tie as tie

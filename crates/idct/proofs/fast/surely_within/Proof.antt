@@ -11,7 +11,7 @@ use Rattle.idct.proofs.fast.surely_within.Tie as tie
 returns : tie.Need-returns
 returns c h =
     let a = c .before .args in
-    let each = c .all-raised .ensures (omega (arith, ltb-true (c .all-raised .result) (2 * COEF_LIMIT) h)) in
+    let each = c .or-plus-most .ensures (omega (arith, ltb-true (c .or-plus-most .result) (2 * COEF_LIMIT) h)) in
     all-within COEF_LIMIT (a .count) (a .block .now) (λ k l. let e : 0 + k ≡ k = omega arith in rw e at (each k l))
 
 pub surely-within-spec : {M : Type 1} → statement M

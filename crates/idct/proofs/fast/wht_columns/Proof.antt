@@ -3,7 +3,8 @@ use Prim.Native.Nat.{_-_}
 use native.Mathlib.Omega.{arith}
 use borrow.Author.Needs.{needs}
 use Rattle.blocks.specs.Block.{columns}
-use Rattle.blocks.specs.Inverse.{Wht, apply, Safe}
+use Rattle.blocks.specs.Inverse.{Wht, apply}
+use Rattle.blocks.specs.Inner.{Safe}
 use Rattle.blocks.proofs.Turns.{Job, columns-job, Turn, turn-none, turn-safe, turn-next, turn-done}
 use Rattle.idct.proofs.fast.wht_columns.Statement.{statement}
 use Rattle.idct.proofs.fast.wht_columns.Tie as tie

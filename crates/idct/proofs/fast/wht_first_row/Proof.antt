@@ -5,7 +5,8 @@ use borrow.Author.Needs.{needs}
 use lib.IntN.{pos}
 use lib.ListN.{getD}
 use Rattle.blocks.specs.Block.{rows}
-use Rattle.blocks.specs.Inverse.{Wht, apply, Safe}
+use Rattle.blocks.specs.Inverse.{Wht, apply}
+use Rattle.blocks.specs.Inner.{Safe}
 use Rattle.blocks.proofs.Live.{dead-at}
 use Rattle.blocks.proofs.Turns.{Job, rows-job, turn-none, turn-safe, turn-next, turn-dead, turn-done}
 use Rattle.idct.proofs.fast.wht_first_row.Statement.{statement}

@@ -3,7 +3,8 @@ use Prim.Native.Nat.{_*_, _-_}
 use native.Mathlib.Omega.{arith}
 use borrow.Author.Needs.{needs}
 use Rattle.blocks.specs.Block.{rows}
-use Rattle.blocks.specs.Inverse.{Wht, apply, Safe}
+use Rattle.blocks.specs.Inverse.{Wht, apply}
+use Rattle.blocks.specs.Inner.{Safe}
 use Rattle.blocks.proofs.Turns.{Job, rows-job, Turn, turn-none, turn-safe, turn-next, turn-done}
 use Rattle.idct.proofs.fast.wht_rows.Statement.{statement}
 use Rattle.idct.proofs.fast.wht_rows.Tie as tie

@@ -1,4 +1,5 @@
-use Rattle.blocks.specs.Inverse.{apply, Safe}
+use Rattle.blocks.specs.Inverse.{apply}
+use Rattle.blocks.specs.Inner.{Safe}
 use borrow.Author.Needs.{needs}
 use Rattle.idct.proofs.reference.apply_1d.Statement.{statement}
 use Rattle.idct.proofs.reference.apply_1d.Tie as tie

@@ -1,11 +1,12 @@
 use borrow.Author.Needs.{needs}
-use Rattle.whole.proofs.Steps.{left-last}
-use Rattle.whole.specs.Steps.{Left}
+use Rattle.whole.proofs.Steps.{left-last, Left}
 use Prim.Native.Nat.{_^_}
-use Rattle.steps.specs.Step.{step, Fine}
+use Rattle.steps.specs.Step.{step}
+use Rattle.steps.specs.Inner.{Fine}
 use Rattle.dct.specs.Dct.{dctSteps, dct}
 use Rattle.dct.proofs.Dct.{dct-process}
-use Rattle.blocks.specs.Inverse.{apply, Safe}
+use Rattle.blocks.specs.Inverse.{apply}
+use Rattle.blocks.specs.Inner.{Safe}
 use Rattle.idct.proofs.reference.dct_or_adst.Statement.{statement}
 use Rattle.idct.proofs.reference.dct_or_adst.Tie as tie
 

@@ -6,8 +6,8 @@ use Rattle.answers.specs.Bad.{anyBeyond}
 use Rattle.answers.specs.Limits.{COEF_LIMIT}
 use Rattle.idct.specs.Driver.{Input}
 use Rattle.idct.proofs.Answers.{made, left, in-range}
-use Rattle.idct.proofs.fast.tried2.Statement.{statement}
-use Rattle.idct.proofs.fast.tried2.Tie as tie
+use Rattle.idct.proofs.fast.try_lossy4.Statement.{statement}
+use Rattle.idct.proofs.fast.try_lossy4.Tie as tie
 
 -- what the call is given
 abbrev given : tie.Start → Input
@@ -22,7 +22,7 @@ inverse4-requires c κs = let s = c .before .before .before .before in (s .pre, 
 returns-2 : tie.Need-returns-2
 returns-2 c = let e = c .before .before .before in made (given (e .before .before .before)) _ (within e) (c .before .inverse4 .ensures)
 
-pub tried2-spec : {M : Type 1} → statement M
-tried2-spec =
+pub try-lossy4-spec : {M : Type 1} → statement M
+try-lossy4-spec =
     tie.close
     (tie.spec (λ c κs. search needs) (λ c. search needs) (λ c. left (given (c .before .before .before))) inverse4-requires (λ c. search needs) returns-2)

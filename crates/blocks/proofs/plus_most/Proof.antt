@@ -8,8 +8,8 @@ use mir.ValLaws.{toZ-ofZ}
 use Rattle.answers.proofs.Absolute.{not-neg}
 use Rattle.blocks.proofs.Near.{abs-most}
 use borrow.Author.Needs.{needs}
-use Rattle.blocks.proofs.raised.Statement.{statement}
-use Rattle.blocks.proofs.raised.Tie as tie
+use Rattle.blocks.proofs.plus_most.Statement.{statement}
+use Rattle.blocks.proofs.plus_most.Tie as tie
 
 plain : (s : tie.Start) → toZ w64 (ofZ w64 (s .args .x)) ≡ s .args .x
 plain s = toZ-ofZ w64 (s .args .x) (s .fits .x)
@@ -35,8 +35,8 @@ add-result-2 c = let s = c .before in rw (plain s) (omega (arith, most s, s .pre
 returns-3 : tie.Need-returns-3
 returns-3 c = let s = c .before in rw (plain s) (λ h. omega arith)
 
-pub raised-spec : {M : Type 1} → statement M
-raised-spec =
+pub plus-most-spec : {M : Type 1} → statement M
+plus-most-spec =
     tie.close
     (tie.spec
     (λ c κs. search needs)

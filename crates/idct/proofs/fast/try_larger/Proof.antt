@@ -13,8 +13,8 @@ use Rattle.answers.specs.Limits.{COEF_LIMIT}
 use Rattle.answers.specs.Sizes.{area}
 use Rattle.idct.specs.Driver.{Input}
 use Rattle.idct.proofs.Answers.{made, left, in-range, Alone, alone, area-some, area-more, dc-beyond, dc-written}
-use Rattle.idct.proofs.fast.tried_large.Statement.{statement}
-use Rattle.idct.proofs.fast.tried_large.Tie as tie
+use Rattle.idct.proofs.fast.try_larger.Statement.{statement}
+use Rattle.idct.proofs.fast.try_larger.Tie as tie
 
 -- what the call is given
 abbrev given : tie.Start → Input
@@ -25,7 +25,7 @@ all-fits : (c : tie.After-side) → Fits w64 (c .side .result * c .side .result)
 all-fits c = omega (arith, mul-le-mul (c .side .ensures .1) (c .side .ensures .1))
 
 only-dc-requires : tie.Need-only-dc-requires
-only-dc-requires c κs = let s = c .before .before in rw (c .before .side .ensures .0) (area-more (s .args .n) (s .pre .0 .least) (s .pre .0 .most), s .pre .1)
+only-dc-requires c κs = let s = c .before .before in rw (c .before .side .ensures .0) (area-more (s .args .n) (s .pre .1 .least) (s .pre .1 .most), s .pre .2)
 
 only : (c : tie.Then1) → let s = c .before .before .before .before in Alone (s .args .n) (s .args .tx-type) (s .args .block .now)
 only c =
@@ -33,14 +33,14 @@ only c =
     alone (s .args .n) (s .args .tx-type) (s .args .block .now) (rw (c .before .before .before .side .ensures .0) at (sym (c .before .only-dc .ensures) ∙ c .if1 .taken))
 
 slice-copy-out-is-beyond : tie.Need-slice-copy-out-is-beyond
-slice-copy-out-is-beyond c = let s = c .before .before .before .before in omega (arith, area-some (s .args .n), s .pre .1)
+slice-copy-out-is-beyond c = let s = c .before .before .before .before in omega (arith, area-some (s .args .n), s .pre .2)
 
 -- place 0 is the only one that can be beyond
 first : (c : tie.After-is-beyond) → let s = c .before .before .before .before .before .before in anyBeyond COEF_LIMIT (area (s .args .n)) (s .args .block .now) ≡ c .is-beyond .result
 first c =
     let w = c .before .before in
     let s = w .before .before .before .before in
-    dc-beyond (s .args .n) (s .args .block .now) (s .pre .0 .least) (s .pre .0 .most) (s .pre .1) (only w .dead)
+    dc-beyond (s .args .n) (s .args .block .now) (s .pre .1 .least) (s .pre .1 .most) (s .pre .2) (only w .dead)
     ∙ sym (c .is-beyond .ensures ∙ rw (toZ-ofZ {w = w64} (record { sfits = c .before .is-beyond-arg .given })))
 
 dc-fill-requires : tie.Need-dc-fill-requires
@@ -49,7 +49,7 @@ dc-fill-requires c κs =
     let b = c .before .before .before .before .before .before .before in
     let s = b .before in
     rw (b .side .ensures .0)
-    (s .pre .0 .least, s .pre .0 .most, area-some (s .args .n), s .pre .1, in-range (area (s .args .n)) (s .args .block .now) (first (e .before) ∙ e .if2 .left) .each 0 (area-some (s .args .n)))
+    (s .pre .1 .least, s .pre .1 .most, area-some (s .args .n), s .pre .2, in-range (area (s .args .n)) (s .args .block .now) (first (e .before) ∙ e .if2 .left) .each 0 (area-some (s .args .n)))
 
 returns-2 : tie.Need-returns-2
 returns-2 c =
@@ -58,10 +58,10 @@ returns-2 c =
     let b = w .before .before .before in
     let s = b .before in
     made (given s) _ (first (e .before) ∙ e .if2 .left)
-    (dc-written (s .args .n) (s .args .block .now) (s .pre .0 .least) (s .pre .0 .most) (s .pre .1) (only w .dead) (only w .zero-kind) (rw (b .side .ensures .0) at (c .before .dc-fill .ensures)))
+    (dc-written (s .args .n) (s .args .block .now) (s .pre .1 .least) (s .pre .1 .most) (s .pre .2) (only w .dead) (only w .zero-kind) (rw (b .side .ensures .0) at (c .before .dc-fill .ensures)))
 
 surely-within-requires : tie.Need-surely-within-requires
-surely-within-requires c κs = let b = c .before .before .before .before in rw (b .side .ensures .0) (b .before .pre .1)
+surely-within-requires c κs = let b = c .before .before .before .before in rw (b .side .ensures .0) (b .before .pre .2)
 
 within : (c : tie.Else3) → let s = c .before .before .before .before .before .before .before in anyBeyond COEF_LIMIT (area (s .args .n)) (s .args .block .now) ≡ false
 within c = let b = c .before .before .before .before .before .before in rw (b .side .ensures .0) at (c .before .surely-within .ensures (not-false _ (c .if3 .left)))
@@ -70,13 +70,13 @@ both-passes-requires : tie.Need-both-passes-requires
 both-passes-requires c κs =
     let e = c .before in
     let s = c .before .before .before .before .before .before .before .before in
-    (s .pre .0, s .pre .1, in-range (area (s .args .n)) (s .args .block .now) (within e))
+    (s .pre .0, s .pre .1, s .pre .2, in-range (area (s .args .n)) (s .args .block .now) (within e))
 
 returns-4 : tie.Need-returns-4
 returns-4 c = let e = c .before .before .before in made (given (c .before .before .before .before .before .before .before .before .before .before)) _ (within e) (c .before .both-passes .ensures)
 
-pub tried-large-spec : {M : Type 1} → statement M
-tried-large-spec =
+pub try-larger-spec : {M : Type 1} → statement M
+try-larger-spec =
     tie.close
     (tie.spec
     (λ c κs. search needs)

@@ -14,8 +14,8 @@ use Rattle.blocks.proofs.Near.{or-left, or-right}
 use Rattle.blocks.proofs.Inverse.{after-rows, both-passes}
 use Rattle.idct.specs.Driver.{Input}
 use Rattle.idct.proofs.Answers.{made, left, in-range}
-use Rattle.idct.proofs.fast.wht_tried.Statement.{statement}
-use Rattle.idct.proofs.fast.wht_tried.Tie as tie
+use Rattle.idct.proofs.fast.try_wht4.Statement.{statement}
+use Rattle.idct.proofs.fast.try_wht4.Tie as tie
 
 -- what the call is given
 abbrev given : tie.Start → Input
@@ -24,10 +24,10 @@ given s = record { block = s .args .block .now; n = 2; tx-type = 0; lossless = t
 within : (c : tie.Else1) → anyBeyond COEF_LIMIT 16 (c .before .before .before .before .before .args .block .now) ≡ false
 within c =
     let s = c .before .before .before .before .before in
-    let all = c .before .before .before .all-raised .result in
-    let rest = c .before .all-raised2 .result in
-    let few = c .before .before .before .all-raised .ensures (omega (arith, or-left all rest, c .if1 .left)) in
-    let more = c .before .all-raised2 .ensures (omega (arith, or-right all rest, c .if1 .left)) in
+    let all = c .before .before .before .or-plus-most .result in
+    let rest = c .before .or-plus-most2 .result in
+    let few = c .before .before .before .or-plus-most .ensures (omega (arith, or-left all rest, c .if1 .left)) in
+    let more = c .before .or-plus-most2 .ensures (omega (arith, or-right all rest, c .if1 .left)) in
     all-within COEF_LIMIT 16 (s .args .block .now) (λ k l. ⊎-elim
     (λ (h : 4 ≤ k). let e : 4 + (k - 4) ≡ k = omega arith in rw e at (more (k - 4) (omega arith)))
     (λ (h : k < 4). let e : 0 + k ≡ k = omega arith in rw e at (few k h))
@@ -71,8 +71,8 @@ returns-3 c =
     let s = e .before .before .before .before .before in
     made (given s) _ (within e) (both-passes 2 0 true (s .args .block .now) _ (c .before .before .before .before .wht-rows .ensures) (c .before .wht-columns2 .ensures))
 
-pub wht-tried-spec : {M : Type 1} → statement M
-wht-tried-spec =
+pub try-wht4-spec : {M : Type 1} → statement M
+try-wht4-spec =
     tie.close
     (tie.spec
     (λ c κs. search needs)

@@ -1,0 +1,23 @@
+-- What only the contracts of inner functions read: the answer as far as the shape gives it, and what the fast engine comes to.
+use mathlib.Core.Path.{_≡_}
+use mathlib.Core.Bool.{Bool, true, false}
+use mathlib.Core.List.{List, [], _∷_}
+use Prim.Native.Nat.{ℕ, _-_}
+use lib.IntN.{ℤ}
+use Rattle.answers.specs.Answers.{lowest}
+use Rattle.answers.specs.Limits.{COEF_LIMIT}
+use Rattle.answers.specs.Sizes.{area}
+use Rattle.answers.specs.Bad.{badLossless, badTxType, anyBeyond}
+use Rattle.blocks.specs.Inverse.{inverse2d}
+use Rattle.idct.specs.Driver.{Input, badSide, badRoom}
+
+-- 2, 3, 4 and 6: the tests before any number of the block is read; the size number is n − 2
+unfoldable pub shapeOf : ℕ → ℕ → ℕ → Bool → ℕ
+shapeOf count n tx-type lossless =
+    lowest ((2, badSide n) ∷ (3, badLossless lossless (n - 2)) ∷ (4, badTxType lossless (n - 2) tx-type) ∷ (6, badRoom count n) ∷ [])
+
+-- what the fast engine comes to on a block of a size and type that there are, and with room: the residual, or nothing done
+pub record Tried (u : Input) (made : Bool) (after : List ℤ) : Type 0 where
+  pub under : made ≡ true → anyBeyond COEF_LIMIT (area (u .n)) (u .block) ≡ false
+  pub written : made ≡ true → after ≡ inverse2d (u .n) (u .tx-type) (u .lossless) (u .block)
+  pub left : made ≡ false → after ≡ u .block
