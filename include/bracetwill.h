@@ -21,13 +21,15 @@
 extern "C" {
 #endif
 
-/* The answers. The lowest number that applies is given, over the whole input. */
+/* The answers. A call gives the lowest number that applies, over the whole input. A VBK file has an order of its own, and the first check
+ * that fails is its answer: the header 13 (bytes), 12 (fewer than 10), 10, 11, 1, 13 (width times height), 12 (samples); a record 12 (fewer
+ * than 11 bytes), 2, 12 (tokens), 14, then that of the reconstruction. docs/REFERENCE.md has every number. */
 enum bracetwill_answer {
   BRACETWILL_DONE = 0,
   BRACETWILL_DEPTH = 1,
   BRACETWILL_SIZE = 2,
   BRACETWILL_LOSSLESS_SIZE = 3,
-  BRACETWILL_KIND = 4,
+  BRACETWILL_TX_TYPE = 4,
   BRACETWILL_QUANTIZER = 5,
   BRACETWILL_LENGTH = 6,
   BRACETWILL_PLANE = 7,
@@ -47,7 +49,7 @@ static inline const char *bracetwill_answer_meaning(uint32_t answer) {
   case BRACETWILL_DEPTH: return "the bit depth is not 8, 10 or 12";
   case BRACETWILL_SIZE: return "there is no such transform size";
   case BRACETWILL_LOSSLESS_SIZE: return "lossless with a size other than 4 by 4";
-  case BRACETWILL_KIND: return "there is no such transform type, or not at 32 by 32";
+  case BRACETWILL_TX_TYPE: return "there is no such transform type, or not at 32 by 32";
   case BRACETWILL_QUANTIZER: return "a quantizer is outside 1 to 32767";
   case BRACETWILL_LENGTH: return "a list has the wrong length";
   case BRACETWILL_PLANE: return "the plane's width or height is above 65535, or its samples are not width times height";
@@ -75,7 +77,7 @@ static inline const char *bracetwill_answer_meaning(uint32_t answer) {
 #define BRACETWILL_ANSWERS_ROOM 874  /* answers, one a record */
 #define BRACETWILL_TEXT_ROOM 45040   /* bytes of text */
 
-/* The transform types: the letters are the columns' kind and the rows' kind. */
+/* The transform types: the letters are the columns' transform and the rows' transform. */
 enum bracetwill_tx_type {
   BRACETWILL_DCT_DCT = 0,
   BRACETWILL_ADST_DCT = 1,

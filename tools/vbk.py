@@ -43,12 +43,12 @@ def plane(depth, width, height, samples):
     return b"VBK" + struct.pack("<HBHH", 1, depth, width, height) + struct.pack("<%dH" % len(samples), *samples)
 
 
-def record(x, y, size, kind, lossless, dc, ac, tokens):
+def record(x, y, size, tx_type, lossless, dc, ac, tokens):
     """One block. Tokens that are left out at the end are zeros; whatever a reader refuses is written all the same."""
     count = 16 << 2 * min(size, 3)
     assert len(tokens) <= count
     whole = list(tokens) + [0] * (count - len(tokens))
-    return struct.pack("<HHBBBHH", x, y, size, kind, lossless, dc, ac) + struct.pack("<%di" % count, *whole)
+    return struct.pack("<HHBBBHH", x, y, size, tx_type, lossless, dc, ac) + struct.pack("<%di" % count, *whole)
 
 
 def wht(a, c, d, b):
@@ -145,5 +145,7 @@ def guarded(main):
     """Runs a tool; what it cannot use is said on standard error, with status 1."""
     try:
         main()
+    except BrokenPipeError:
+        raise
     except (Bad, OSError, ValueError, subprocess.CalledProcessError) as e:
         sys.exit("%s: %s" % (os.path.basename(sys.argv[0]), e))

@@ -1,4 +1,4 @@
-/* Every exported call from C: values of the scope document, every number that each call can give, and what was lent afterwards.
+/* Every exported call from C: values of docs/REFERENCE.md, every number that each call can give, and what was lent afterwards.
  * printf is declared here, so that nothing is needed but the compiler's own headers and a C library to link with. */
 #include "bracetwill.h"
 
@@ -59,14 +59,14 @@ static void drivers_refuse(driver *call) {
   for (uint32_t n = 3; n <= 5; n++) driver_refused(call, 0, n, 9, true, 0, beyond, BRACETWILL_LOSSLESS_SIZE, "driver: lossless");
   for (uint32_t n = 2; n <= 5; n++) {
     const size_t count = (size_t)1 << (2 * n);
-    driver_refused(call, 0, n, 4, false, 0, beyond, BRACETWILL_KIND, "driver: type 4");
-    driver_refused(call, 0, n, 255, false, 0, beyond, BRACETWILL_KIND, "driver: type 255");
+    driver_refused(call, 0, n, 4, false, 0, beyond, BRACETWILL_TX_TYPE, "driver: type 4");
+    driver_refused(call, 0, n, 255, false, 0, beyond, BRACETWILL_TX_TYPE, "driver: type 255");
     driver_refused(call, count - 1, n, 0, false, 0, beyond, BRACETWILL_LENGTH, "driver: one short");
     driver_refused(call, count, n, 0, false, count - 1, beyond, BRACETWILL_COEFFICIENT, "driver: last beyond");
     driver_refused(call, count, n, 0, false, 0, -beyond, BRACETWILL_COEFFICIENT, "driver: first beyond");
     driver_refused(call, MOST, n, 0, false, 1, INT64_MIN, BRACETWILL_COEFFICIENT, "driver: the least number");
   }
-  for (uint8_t type = 1; type <= 3; type++) driver_refused(call, 1024, 5, type, false, 0, 0, BRACETWILL_KIND, "driver: ADST at 32 by 32");
+  for (uint8_t type = 1; type <= 3; type++) driver_refused(call, 1024, 5, type, false, 0, 0, BRACETWILL_TX_TYPE, "driver: ADST at 32 by 32");
   equal(call(NULL, 0, 2, 0, false), BRACETWILL_LENGTH, "driver: no list");
 }
 
@@ -162,10 +162,10 @@ static void reconstruct_refuses(void) {
   c.ac_quant = INT32_MIN;
   reconstruct_refused(c, 15, 16451, BRACETWILL_QUANTIZER, "reconstruction: AC quantizer");
   c.tx_type = 4;
-  reconstruct_refused(c, 15, 16451, BRACETWILL_KIND, "reconstruction: type");
+  reconstruct_refused(c, 15, 16451, BRACETWILL_TX_TYPE, "reconstruction: type");
   c.tx_sz = 3;
   c.tx_type = 1;
-  reconstruct_refused(c, 15, 16451, BRACETWILL_KIND, "reconstruction: ADST at 32 by 32");
+  reconstruct_refused(c, 15, 16451, BRACETWILL_TX_TYPE, "reconstruction: ADST at 32 by 32");
   c.lossless = true;
   reconstruct_refused(c, 15, 16451, BRACETWILL_LOSSLESS_SIZE, "reconstruction: lossless");
   c.tx_sz = 4;
@@ -376,7 +376,7 @@ static void record(unsigned size, unsigned type, unsigned lossless, unsigned dc,
   }
 }
 
-/* The scope document's listing. */
+/* The listing of docs/REFERENCE.md. */
 static void listing(void) {
   header(8, 4, 4);
   record(0, 0, 1, 4, 4, 5);

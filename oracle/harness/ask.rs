@@ -1,4 +1,4 @@
-//! One call put to the Rust, or refused by the scope document's rules.
+//! One call put to the Rust, or refused by the rules of docs/REFERENCE.md.
 
 use crate::idct_open::open;
 use crate::line::{Call, Outcome};

@@ -1,4 +1,4 @@
-//! Reads a VBK file on standard input and prints what the scope document says of it.
+//! Reads a VBK file on standard input and prints what docs/REFERENCE.md says of it.
 
 #[path = "../rust/fwd_transform.rs"]
 mod fwd_transform;

@@ -629,7 +629,7 @@ fn codeable(r: &mut Rng) -> Call {
     call(26, vec![depth.into()], vec![])
 }
 
-/// The record of the scope document's worked file.
+/// The record of the worked file of docs/REFERENCE.md.
 pub fn example() -> Recon {
     let mut tokens = vec![0; 16];
     tokens[0] = 5;
@@ -913,7 +913,7 @@ fn systematic_coder(out: &mut dyn FnMut(Call)) {
     }
 }
 
-/// The numbers that the scope document itself works out.
+/// The numbers that docs/REFERENCE.md itself works out.
 pub fn worked(out: &mut dyn FnMut(Call)) {
     for (bits, x) in [(5, 1), (3, 6)] {
         out(call(2, vec![bits, x], vec![]));
@@ -966,7 +966,7 @@ pub fn worked(out: &mut dyn FnMut(Call)) {
     out(files::as_call(&files::worked()));
 }
 
-/// Each call that the scope document or the form of the code singles out.
+/// Each call that docs/REFERENCE.md or the form of the code singles out.
 pub fn systematic(r: &mut Rng, out: &mut dyn FnMut(Call)) {
     worked(out);
     systematic_parts(r, out);

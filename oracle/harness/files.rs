@@ -221,14 +221,14 @@ pub fn as_call(file: &[u8]) -> Call {
     Call { kind: 30, args: vec![], lists: vec![file.iter().map(|b| i64::from(*b)).collect()] }
 }
 
-/// The worked example of the scope document.
+/// The worked example of docs/REFERENCE.md.
 pub fn worked() -> Vec<u8> {
     let mut f = header(8, 4, 4, &[100; 16]);
     record(&mut f, &example(), 1);
     f
 }
 
-/// Files that the scope document names one by one: each header refusal alone and with each later one, each cut.
+/// Files that docs/REFERENCE.md names one by one: each header refusal alone and with each later one, each cut.
 pub fn systematic(r: &mut Rng, out: &mut dyn FnMut(Vec<u8>)) {
     let example = worked();
     for cut in 0..=example.len() {

@@ -1,4 +1,4 @@
-//! What the Rust does with inputs that the scope document refuses: the runs behind docs/DIFFERENCES.md.
+//! What the Rust does with inputs that docs/REFERENCE.md refuses: the runs behind docs/DIFFERENCES.md.
 //! With the word `small` it runs only the reference driver at n 1, which ends the release build.
 
 #[path = "../rust/fwd_transform.rs"]

@@ -1,4 +1,4 @@
-//! The refusals of the scope document, written from its table and from nothing else.
+//! The refusals of docs/REFERENCE.md, written from its table and orders and from nothing else.
 //! Each function gives the lowest number that applies, or 0.
 
 pub const COEF_LIMIT: u64 = 134_217_728;

@@ -1,4 +1,4 @@
-//! A VBK file: reading by the scope document's order of checks, with the Rust at work on each accepted record.
+//! A VBK file: reading by docs/REFERENCE.md's order of checks, with the Rust at work on each accepted record.
 
 use crate::{intra, reconstruct, rules};
 

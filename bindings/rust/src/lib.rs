@@ -39,7 +39,7 @@ pub enum Refusal {
     Depth = 1,
     Size,
     LosslessSize,
-    Kind,
+    TxType,
     Quantizer,
     Length,
     Plane,
@@ -57,7 +57,7 @@ const REFUSALS: [(Refusal, &str); 14] = [
     (Refusal::Depth, "the bit depth is not 8, 10 or 12"),
     (Refusal::Size, "there is no such transform size"),
     (Refusal::LosslessSize, "lossless with a size other than 4 by 4"),
-    (Refusal::Kind, "there is no such transform type, or not at 32 by 32"),
+    (Refusal::TxType, "there is no such transform type, or not at 32 by 32"),
     (Refusal::Quantizer, "a quantizer is outside 1 to 32767"),
     (Refusal::Length, "a list has the wrong length"),
     (Refusal::Plane, "the plane's width or height is above 65535, or its samples are not width times height"),
@@ -439,7 +439,7 @@ mod tests {
         fwd_transform::quantize_block(&mut [1], 0, 1);
     }
 
-    /// The listing of the scope document.
+    /// The listing of docs/REFERENCE.md.
     #[test]
     fn the_listing() {
         let mut file = b"VBK\x01\x00\x08\x04\x00\x04\x00".to_vec();

@@ -1,4 +1,4 @@
-//! Our calls against the Rust itself (oracle/rust, unchanged) and the scope document's refusals (oracle/harness/rules.rs), on the
+//! Our calls against the Rust itself (oracle/rust, unchanged) and the refusals of docs/REFERENCE.md (oracle/harness/rules.rs), on the
 //! systematic cases of oracle/harness and as many random ones as asked for: `oracle [SEED] [COUNT]`. Prints how many of each call were alike.
 #![allow(dead_code)]
 #[path = "../../../oracle/rust/fwd_transform.rs"]

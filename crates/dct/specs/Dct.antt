@@ -8,7 +8,7 @@ use Rattle.whole.specs.Steps.{run, each, when, _⨾_}
 use Rattle.primitives.specs.Brev.{Brev}
 use Rattle.steps.specs.Step.{Step, Bf, Hd, Move, step}
 
--- one turn of the loop of step 2; here and below n0 is 2^n, and n1, n2, n3 of the document are its half, quarter and eighth
+-- one turn of the loop of step 2; here and below n0 is 2^n, and n1, n2, n3 of the specification are its half, quarter and eighth
 abbrev pub turn2 : ℕ → ℕ → List Step
 turn2 n0 i = Bf (n0 / 2 + i) (n0 - 1 - i) (pos 32 -ℤ pos (Brev 5 (n0 / 2 + i))) false ∷ []
 

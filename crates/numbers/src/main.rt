@@ -1,4 +1,4 @@
-// Numbers of the scope document that are run and not proved: a line for each call, with what it gives.
+// Numbers of docs/REFERENCE.md that are run and not proved: a line for each call, with what it gives.
 use libc::STDOUT_FILENO;
 
 fn show_number(call: &[u8], value: u64) {

@@ -1,4 +1,4 @@
--- The document's B, H, SB and SH over the arrays T and S. Specification §8.7.1.1.
+-- The specification's B, H, SB and SH over the arrays T and S. Specification §8.7.1.1.
 use mathlib.Core.Bool.{Bool, true, false}
 use mathlib.Core.List.{List}
 use Prim.Native.Nat.{ℕ}

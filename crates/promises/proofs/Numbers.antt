@@ -1,4 +1,4 @@
--- The numbers of the scope that are proved, by computation.
+-- The numbers of docs/REFERENCE.md that are proved, by computation.
 use mathlib.Core.Path.{_≡_, refl}
 use Rattle.whole.specs.Lists.{tabulate, fill, move}
 use Rattle.whole.specs.Round.{Round2}

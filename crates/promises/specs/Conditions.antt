@@ -1,4 +1,4 @@
--- The conditions that several calls share, in plain terms. Each number's line of the scope's table stands above its own.
+-- The conditions that several calls share, in plain terms. Each number's line of the table of answers (docs/REFERENCE.md) stands above its own.
 use mathlib.Core.Path.{_≡_}
 use mathlib.Core.Bool.{Bool, true, false}
 use mathlib.Core.List.{List}

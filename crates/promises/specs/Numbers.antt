@@ -1,4 +1,4 @@
--- The numbers of the scope that are proved, in one table: what a definition gives, beside what the scope says.
+-- The numbers of docs/REFERENCE.md that are proved, in one table: what a definition gives, beside what is said there.
 use mathlib.Core.Bool.{false}
 use mathlib.Core.List.{List, [], _∷_}
 use Prim.Native.Nat.{ℕ}
@@ -28,7 +28,7 @@ dcBlock x said = record { given = inverse2d 2 0 false (x ∷ replicate 15 (pos 0
 abbrev token : ℕ → ℤ → ℤ → ℤ → Row
 token size q coef said = one (quantize size (codeable 8) q coef) said
 
--- the scope's numbers marked (P), in its order
+-- the numbers marked P, in the order of their table
 unfoldable pub numbers : List Row
 numbers =
     one (pos (Brev 5 1)) (pos 16)
@@ -54,7 +54,7 @@ abbrev pub givens : List Row → List (List ℤ)
 givens [] = []
 givens (r ∷ rs) = r .given ∷ givens rs
 
--- what the scope says
+-- what docs/REFERENCE.md says
 abbrev pub saids : List Row → List (List ℤ)
 saids [] = []
 saids (r ∷ rs) = r .said ∷ saids rs

@@ -7,7 +7,7 @@ use lib.ListN.{replicate}
 use Rattle.primitives.specs.Rotations.{applySB, applySH}
 use Rattle.steps.specs.Step.{Step, step}
 
--- the two arrays of the document
+-- the two arrays of the specification
 pub record Arrays : Type 0 where
   pub T : List ℤ
   pub S : List ℤ
