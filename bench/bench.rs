@@ -8,33 +8,14 @@ mod idct;
 mod intra;
 #[path = "../oracle/rust/reconstruct.rs"]
 mod reconstruct;
+#[path = "../bindings/rust/src/archive.rs"]
+mod archive;
 
 use std::hint::black_box;
 use std::time::Instant;
 
 mod ours {
-    #[allow(clippy::too_many_arguments)]
-    mod c {
-        unsafe extern "C" {
-            pub fn bracetwill_inverse_transform_2d(block: *mut i64, len: usize, n: u32, tx_type: u8, lossless: bool) -> u32;
-            pub fn bracetwill_reconstruct_block(
-                samples: *mut u16,
-                count: usize,
-                width: usize,
-                height: usize,
-                x: usize,
-                y: usize,
-                tx_sz: u32,
-                tokens: *const i64,
-                len: usize,
-                dc_quant: i32,
-                ac_quant: i32,
-                tx_type: u8,
-                lossless: bool,
-                bit_depth: u32,
-            ) -> u32;
-        }
-    }
+    use crate::archive as c;
     pub fn inverse_transform_2d(block: &mut [i64], n: u32, tx_type: u8, lossless: bool) -> u32 {
         unsafe { c::bracetwill_inverse_transform_2d(block.as_mut_ptr(), block.len(), n, tx_type, lossless) }
     }

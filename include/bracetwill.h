@@ -1,5 +1,5 @@
-/* Bracetwill: the residual path of VP9, for C and C++. Link with target/staticlib/libexports.a, x86-64 code that `rt staticlib exports`
- * proves and writes; it needs nothing but memcpy and memset. bindings/README.md has the commands.
+/* Bracetwill: the residual path of VP9, for C and C++. Link with libbracetwill.a, x86-64 code that `bindings/archive` proves and writes; it
+ * needs nothing but memcpy and memset. bindings/README.md has the commands; `bindings/install PREFIX` puts header and archive in place.
  *
  * Every call ends, on every input, with an answer that is fixed beforehand: it has no state, takes no memory of its own but stack, prints
  * nothing and calls nobody. Calls may run at the same time in several threads where what they are lent is not shared.
@@ -9,6 +9,12 @@
  *  - the pointer is aligned for its type and points to that many numbers, all of them set; where there are none it may be NULL;
  *  - a list that is not const is written to, and shares no memory with any other list of the same call.
  *
+ * What the numbers are:
+ *  - tokens and coefficients of a block stand in raster order, row by row, and not in scan order: a decoder that reads them in scan order
+ *    puts each at its place first;
+ *  - quantizers are the multipliers, the numbers that the tables dc_qlookup and ac_qlookup hold, and not indexes into these tables;
+ *  - samples are 16 bit at every depth, 8 included.
+ *
  * A type is passed as the number that C makes of it: 256 for a uint8_t is 0 before the call begins. Compile with -Wconversion. */
 #ifndef BRACETWILL_H
 #define BRACETWILL_H
@@ -17,52 +23,72 @@
 #include <stddef.h>
 #include <stdint.h>
 
+/* made by bindings/write from VERSION */
+#define BRACETWILL_VERSION_MAJOR 0
+#define BRACETWILL_VERSION_MINOR 1
+#define BRACETWILL_VERSION_PATCH 0
+#define BRACETWILL_VERSION_STRING "0.1.0"
+/* end */
+
+/* An answer that is not looked at is a warning: a refused call has written nothing. */
+#if defined(__cplusplus) && __cplusplus >= 201703L
+#define BRACETWILL_NODISCARD [[nodiscard]]
+#elif !defined(__cplusplus) && defined(__STDC_VERSION__) && __STDC_VERSION__ >= 202000L
+#define BRACETWILL_NODISCARD [[nodiscard]]
+#elif defined(__GNUC__)
+#define BRACETWILL_NODISCARD __attribute__((warn_unused_result))
+#else
+#define BRACETWILL_NODISCARD
+#endif
+
 #ifdef __cplusplus
 extern "C" {
 #endif
 
+/* made by bindings/write from answers.txt */
 /* The answers. A call gives the lowest number that applies, over the whole input. A VBK file has an order of its own, and the first check
  * that fails is its answer: the header 13 (bytes), 12 (fewer than 10), 10, 11, 1, 13 (width times height), 12 (samples); a record 12 (fewer
  * than 11 bytes), 2, 12 (tokens), 14, then that of the reconstruction. docs/REFERENCE.md has every number. */
 enum bracetwill_answer {
-  BRACETWILL_DONE = 0,
-  BRACETWILL_DEPTH = 1,
-  BRACETWILL_SIZE = 2,
-  BRACETWILL_LOSSLESS_SIZE = 3,
-  BRACETWILL_TX_TYPE = 4,
-  BRACETWILL_QUANTIZER = 5,
-  BRACETWILL_LENGTH = 6,
-  BRACETWILL_PLANE = 7,
-  BRACETWILL_TOKEN = 8,
-  BRACETWILL_COEFFICIENT = 9,
-  BRACETWILL_MARK = 10,
-  BRACETWILL_VERSION = 11,
-  BRACETWILL_CUT_SHORT = 12,
-  BRACETWILL_TOO_LARGE = 13,
-  BRACETWILL_LOSSLESS_BYTE = 14
+  BRACETWILL_ANSWER_DONE = 0,
+  BRACETWILL_ANSWER_DEPTH = 1,
+  BRACETWILL_ANSWER_SIZE = 2,
+  BRACETWILL_ANSWER_LOSSLESS_SIZE = 3,
+  BRACETWILL_ANSWER_TX_TYPE = 4,
+  BRACETWILL_ANSWER_QUANTIZER = 5,
+  BRACETWILL_ANSWER_LENGTH = 6,
+  BRACETWILL_ANSWER_PLANE = 7,
+  BRACETWILL_ANSWER_TOKEN = 8,
+  BRACETWILL_ANSWER_COEFFICIENT = 9,
+  BRACETWILL_ANSWER_MARK = 10,
+  BRACETWILL_ANSWER_VERSION = 11,
+  BRACETWILL_ANSWER_CUT_SHORT = 12,
+  BRACETWILL_ANSWER_TOO_LARGE = 13,
+  BRACETWILL_ANSWER_LOSSLESS_BYTE = 14
 };
 
-/* An answer in words; never NULL. */
+/* An answer in words, the same that every other part of the product says; never NULL. */
 static inline const char *bracetwill_answer_meaning(uint32_t answer) {
   switch (answer) {
-  case BRACETWILL_DONE: return "done";
-  case BRACETWILL_DEPTH: return "the bit depth is not 8, 10 or 12";
-  case BRACETWILL_SIZE: return "there is no such transform size";
-  case BRACETWILL_LOSSLESS_SIZE: return "lossless with a size other than 4 by 4";
-  case BRACETWILL_TX_TYPE: return "there is no such transform type, or not at 32 by 32";
-  case BRACETWILL_QUANTIZER: return "a quantizer is outside 1 to 32767";
-  case BRACETWILL_LENGTH: return "a list has the wrong length";
-  case BRACETWILL_PLANE: return "the plane's width or height is above 65535, or its samples are not width times height";
-  case BRACETWILL_TOKEN: return "a token's magnitude is above the depth's codeable limit";
-  case BRACETWILL_COEFFICIENT: return "a coefficient is beyond its limit";
-  case BRACETWILL_MARK: return "VBK: the mark is not there";
-  case BRACETWILL_VERSION: return "VBK: the version is not 1";
-  case BRACETWILL_CUT_SHORT: return "VBK: the header, the samples or a record is cut short";
-  case BRACETWILL_TOO_LARGE: return "VBK: the file is above 65535 bytes, or its plane has not 1 to 4096 samples";
-  case BRACETWILL_LOSSLESS_BYTE: return "VBK: a record's lossless byte is above 1";
+  case BRACETWILL_ANSWER_DONE: return "done";
+  case BRACETWILL_ANSWER_DEPTH: return "bit depth is not 8, 10 or 12";
+  case BRACETWILL_ANSWER_SIZE: return "size number above 3 (for the 2D drivers: n outside 2 to 5)";
+  case BRACETWILL_ANSWER_LOSSLESS_SIZE: return "lossless with a size other than 4 by 4";
+  case BRACETWILL_ANSWER_TX_TYPE: return "not lossless, and a tx_type above 3, or 32 by 32 with a tx_type other than 0";
+  case BRACETWILL_ANSWER_QUANTIZER: return "a quantizer outside 1 to 32,767";
+  case BRACETWILL_ANSWER_LENGTH: return "a list has the wrong length";
+  case BRACETWILL_ANSWER_PLANE: return "plane width or height above 65,535, or samples not exactly width times height";
+  case BRACETWILL_ANSWER_TOKEN: return "a token's magnitude above the depth's codeable limit (16,450, 65,602 and 262,210)";
+  case BRACETWILL_ANSWER_COEFFICIENT: return "a coefficient beyond its limit (2^27; for the forward WHT 2^23)";
+  case BRACETWILL_ANSWER_MARK: return "VBK: the mark is not there";
+  case BRACETWILL_ANSWER_VERSION: return "VBK: version is not 1";
+  case BRACETWILL_ANSWER_CUT_SHORT: return "VBK: header, samples or a record cut short";
+  case BRACETWILL_ANSWER_TOO_LARGE: return "VBK: file above 65,535 bytes, or width times height not 1 to 4,096";
+  case BRACETWILL_ANSWER_LOSSLESS_BYTE: return "VBK: a record's lossless byte above 1";
   default: return "no answer has this number";
   }
 }
+/* end */
 
 /* Limits, magnitudes included. */
 #define BRACETWILL_COEF_LIMIT INT64_C(134217728) /* dequantized values, the 2D driver's input, the quantizer's input */
@@ -88,31 +114,38 @@ enum bracetwill_tx_type {
 /* The inverse transform of a block, in place. n is 2 to 5 and n0 = 2^n; the block's n0 * n0 coefficients stand row by row at the front of
  * the list and become the residual. What lies past them is not looked at and stays. tx_type is not looked at when lossless is set.
  * Answers 0, 2 (n), 3, 4, 6 (fewer than n0 * n0), 9. */
+BRACETWILL_NODISCARD
 uint32_t bracetwill_inverse_transform_2d(int64_t *block, size_t block_len, uint32_t n, uint8_t tx_type, bool lossless);
 
 /* The same by the specification's recursive processes: the same answer and the same block always, more slowly. */
+BRACETWILL_NODISCARD
 uint32_t bracetwill_inverse_transform_2d_reference(int64_t *block, size_t block_len, uint32_t n, uint8_t tx_type, bool lossless);
 
 /* A block's tokens are dequantized and transformed, and the residual is added to the samples at column x and row y and on, each clipped to
  * the depth, cut to the plane. Samples stand row by row, width * height of them. tx_sz is 0 to 3 for 4, 8, 16 and 32; tokens are n0 * n0.
  * dc_quant is for token 0, ac_quant for all others. x and y are any number: a block outside the plane is done, and writes nothing.
  * Answers 0 to 9. */
+BRACETWILL_NODISCARD
 uint32_t bracetwill_reconstruct_block(uint16_t *samples, size_t samples_len, size_t width, size_t height, size_t x, size_t y,
                                       uint32_t tx_sz, const int64_t *tokens, size_t tokens_len, int32_t dc_quant, int32_t ac_quant,
                                       uint8_t tx_type, bool lossless, uint32_t bit_depth);
 
 /* The forward WHT of 16 numbers, in place. Answers 0, 6 (not 16), 9 (beyond BRACETWILL_WHT_LIMIT). */
+BRACETWILL_NODISCARD
 uint32_t bracetwill_forward_wht_2d(int64_t *block, size_t block_len);
 
 /* Coefficients become tokens, in place: 0 to 1024 of them, dc_quant for the first and ac_quant for all others. An exact half goes toward
  * zero. Answers 0, 1, 2, 5, 6, 9. */
+BRACETWILL_NODISCARD
 uint32_t bracetwill_quantize_block_tx(int64_t *coefs, size_t coefs_len, int32_t dc_quant, int32_t ac_quant, uint32_t tx_sz,
                                       uint32_t bit_depth);
 
 /* The same at a small size and depth 8. Answers 0, 5, 6, 9. */
+BRACETWILL_NODISCARD
 uint32_t bracetwill_quantize_block(int64_t *coefs, size_t coefs_len, int32_t dc_quant, int32_t ac_quant);
 
 /* The codeable limit of a depth, the greatest magnitude of a token; 0 for a depth that is not 8, 10 or 12. */
+BRACETWILL_NODISCARD
 int64_t bracetwill_max_codeable_coef(uint32_t bit_depth);
 
 /* What a run over a VBK file tells of itself: the places of its figures. */
@@ -129,14 +162,16 @@ enum bracetwill_figure {
  * answers, the figures at the front of figures; what lies past them stays. Each of the three rooms may be larger than is needed.
  * Answers 0, 1, 6 (fewer than BRACETWILL_SAMPLES_ROOM samples, BRACETWILL_ANSWERS_ROOM answers or BRACETWILL_FIGURES figures),
  * 10, 11, 12, 13. A record's answer is 0, 2 to 5, 8, 9, 12 or 14. */
+BRACETWILL_NODISCARD
 uint32_t bracetwill_replay(const uint8_t *file, size_t file_len, uint16_t *samples, size_t samples_len, uint8_t *answers,
                            size_t answers_len, uint64_t *figures, size_t figures_len);
 
-/* A run and its text, the lines of the program blockrun: the text at the front of text, its length handed back; no zero byte ends it.
+/* A run and its text, the lines of the program blockrun: the text at the front of out, its length handed back; no zero byte ends it.
  * A header that is refused has the line `E number`. The plane and the records' answers are left as by bracetwill_replay.
- * Gives 0, and changes nothing, where text has fewer than BRACETWILL_TEXT_ROOM bytes or another room is too short as above. */
+ * Gives 0, and changes nothing, where out has fewer than BRACETWILL_TEXT_ROOM bytes or another room is too short as above. */
+BRACETWILL_NODISCARD
 size_t bracetwill_blockrun(const uint8_t *file, size_t file_len, uint16_t *samples, size_t samples_len, uint8_t *answers,
-                           size_t answers_len, uint8_t *text, size_t text_len);
+                           size_t answers_len, uint8_t *out, size_t out_len);
 
 #ifdef __cplusplus
 }

@@ -6,24 +6,15 @@ import sys
 
 ROOT = os.path.dirname(os.path.dirname(os.path.abspath(__file__)))
 
-# The answer numbers, each with what it means. crates/answers/specs/Answers.antt has the numbers that are proved.
-MEANINGS = {
-    0: "done",
-    1: "bit depth is not 8, 10 or 12",
-    2: "size number above 3",
-    3: "lossless with a size other than 4 by 4",
-    4: "not lossless, and either a type above 3 or 32 by 32 with a type other than 0",
-    5: "a quantizer outside 1 to 32,767",
-    6: "a list has the wrong length",
-    7: "plane width or height above 65,535, or samples not exactly width x height",
-    8: "a token's magnitude above the depth's codeable limit",
-    9: "a coefficient beyond its limit",
-    10: "the mark VBK is not there",
-    11: "version is not 1",
-    12: "header, samples or a record cut short",
-    13: "file above 65,535 bytes, or width x height not 1 to 4,096",
-    14: "a record's lossless byte above 1",
-}
+
+def read_meanings():
+    """The answer numbers of answers.txt, each with what it means."""
+    with open(os.path.join(ROOT, "answers.txt"), encoding="ascii") as f:
+        rows = [line.split(None, 2) for line in f if not line.startswith("#")]
+    return {int(number): words.strip() for number, _, words in rows}
+
+
+MEANINGS = read_meanings()
 
 
 class Bad(Exception):
@@ -76,6 +67,26 @@ def read_plane(file):
     if len(file) < 10 + 2 * width * height:
         raise Bad("the samples are cut short")
     return depth, width, height, list(struct.unpack_from("<%dH" % (width * height), file, 10))
+
+
+class Record:
+    """The head of a record: place, size number, type, lossless byte and quantizers."""
+
+    def __init__(self, x, y, size, kind, lossless, dc, ac):
+        self.x, self.y, self.size, self.kind, self.lossless, self.dc, self.ac = x, y, size, kind, lossless, dc, ac
+
+
+def read_records(file):
+    """The heads of a file's records, to the one at which blockrun stops reading: a size above 3, or fewer bytes than it needs."""
+    _, width, height, _ = read_plane(file)
+    out = []
+    at = 10 + 2 * width * height
+    while at + 11 <= len(file):
+        out.append(Record(*struct.unpack_from("<HHBBBHH", file, at)))
+        if out[-1].size > 3:
+            break
+        at += 11 + (64 << 2 * out[-1].size)
+    return out
 
 
 class Run:

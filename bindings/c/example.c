@@ -4,7 +4,7 @@
 
 /* The answer in words, where it is a refusal. */
 static int refused(const char *call, uint32_t answer) {
-  if (answer == BRACETWILL_DONE) return 0;
+  if (answer == BRACETWILL_ANSWER_DONE) return 0;
   fprintf(stderr, "%s: answer %u, %s\n", call, (unsigned)answer, bracetwill_answer_meaning(answer));
   return 1;
 }

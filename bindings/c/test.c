@@ -55,19 +55,19 @@ static void driver_refused(driver *call, size_t len, uint32_t n, uint8_t type, b
 static void drivers_refuse(driver *call) {
   const int64_t beyond = BRACETWILL_COEF_LIMIT + 1;
   const uint32_t sizes[] = {0, 1, 6, 7, UINT32_MAX};
-  for (size_t k = 0; k < 5; k++) driver_refused(call, 1024, sizes[k], 9, true, 0, beyond, BRACETWILL_SIZE, "driver: n");
-  for (uint32_t n = 3; n <= 5; n++) driver_refused(call, 0, n, 9, true, 0, beyond, BRACETWILL_LOSSLESS_SIZE, "driver: lossless");
+  for (size_t k = 0; k < 5; k++) driver_refused(call, 1024, sizes[k], 9, true, 0, beyond, BRACETWILL_ANSWER_SIZE, "driver: n");
+  for (uint32_t n = 3; n <= 5; n++) driver_refused(call, 0, n, 9, true, 0, beyond, BRACETWILL_ANSWER_LOSSLESS_SIZE, "driver: lossless");
   for (uint32_t n = 2; n <= 5; n++) {
     const size_t count = (size_t)1 << (2 * n);
-    driver_refused(call, 0, n, 4, false, 0, beyond, BRACETWILL_TX_TYPE, "driver: type 4");
-    driver_refused(call, 0, n, 255, false, 0, beyond, BRACETWILL_TX_TYPE, "driver: type 255");
-    driver_refused(call, count - 1, n, 0, false, 0, beyond, BRACETWILL_LENGTH, "driver: one short");
-    driver_refused(call, count, n, 0, false, count - 1, beyond, BRACETWILL_COEFFICIENT, "driver: last beyond");
-    driver_refused(call, count, n, 0, false, 0, -beyond, BRACETWILL_COEFFICIENT, "driver: first beyond");
-    driver_refused(call, MOST, n, 0, false, 1, INT64_MIN, BRACETWILL_COEFFICIENT, "driver: the least number");
+    driver_refused(call, 0, n, 4, false, 0, beyond, BRACETWILL_ANSWER_TX_TYPE, "driver: type 4");
+    driver_refused(call, 0, n, 255, false, 0, beyond, BRACETWILL_ANSWER_TX_TYPE, "driver: type 255");
+    driver_refused(call, count - 1, n, 0, false, 0, beyond, BRACETWILL_ANSWER_LENGTH, "driver: one short");
+    driver_refused(call, count, n, 0, false, count - 1, beyond, BRACETWILL_ANSWER_COEFFICIENT, "driver: last beyond");
+    driver_refused(call, count, n, 0, false, 0, -beyond, BRACETWILL_ANSWER_COEFFICIENT, "driver: first beyond");
+    driver_refused(call, MOST, n, 0, false, 1, INT64_MIN, BRACETWILL_ANSWER_COEFFICIENT, "driver: the least number");
   }
-  for (uint8_t type = 1; type <= 3; type++) driver_refused(call, 1024, 5, type, false, 0, 0, BRACETWILL_TX_TYPE, "driver: ADST at 32 by 32");
-  equal(call(NULL, 0, 2, 0, false), BRACETWILL_LENGTH, "driver: no list");
+  for (uint8_t type = 1; type <= 3; type++) driver_refused(call, 1024, 5, type, false, 0, 0, BRACETWILL_ANSWER_TX_TYPE, "driver: ADST at 32 by 32");
+  equal(call(NULL, 0, 2, 0, false), BRACETWILL_ANSWER_LENGTH, "driver: no list");
 }
 
 /* DC-only blocks: 16 gives 1, 14 gives 0, -16 gives 0, 32 gives 1. */
@@ -76,20 +76,20 @@ static void drivers_known(driver *call) {
   for (size_t c = 0; c < 4; c++) {
     filled(0, of[c][0]);
     for (size_t k = 1; k < 16; k++) list[k] = 0;
-    equal(call(list, MOST, 2, 0, false), BRACETWILL_DONE, "driver: DC only");
+    equal(call(list, MOST, 2, 0, false), BRACETWILL_ANSWER_DONE, "driver: DC only");
     for (size_t k = 0; k < 16; k++) equal(list[k], of[c][1], "driver: DC only, a residual");
     check(same(list + 16, before + 16, sizeof list - 16 * sizeof *list), "driver: past the block", 0, 0);
   }
   /* lossless, 20: the rows take a quarter, 5, and so (3, 2, 2, 2), of which the columns make 2 and 1 */
   zeros();
   list[0] = 20;
-  equal(call(list, 16, 2, 255, true), BRACETWILL_DONE, "driver: lossless");
+  equal(call(list, 16, 2, 255, true), BRACETWILL_ANSWER_DONE, "driver: lossless");
   for (size_t k = 0; k < 16; k++) equal(list[k], k == 0 ? 2 : 1, "driver: lossless, a residual");
   /* the limit itself is taken */
   zeros();
   list[0] = BRACETWILL_COEF_LIMIT;
   list[1023] = -BRACETWILL_COEF_LIMIT;
-  equal(call(list, 1024, 5, 0, false), BRACETWILL_DONE, "driver: the limit");
+  equal(call(list, 1024, 5, 0, false), BRACETWILL_ANSWER_DONE, "driver: the limit");
 }
 
 /* The two drivers give one block, for every size and type. */
@@ -100,8 +100,8 @@ static void drivers_agree(void) {
       for (size_t place = 0; place < 16; place++) {
         filled(place, 1000 * (int64_t)place - 7000);
         copy(other, list, sizeof list);
-        equal(bracetwill_inverse_transform_2d(list, MOST, n, type, false), BRACETWILL_DONE, "agree: fast");
-        equal(bracetwill_inverse_transform_2d_reference(other, MOST, n, type, false), BRACETWILL_DONE, "agree: reference");
+        equal(bracetwill_inverse_transform_2d(list, MOST, n, type, false), BRACETWILL_ANSWER_DONE, "agree: fast");
+        equal(bracetwill_inverse_transform_2d_reference(other, MOST, n, type, false), BRACETWILL_ANSWER_DONE, "agree: reference");
         check(same(list, other, sizeof list), "agree: the block", (long long)n, (long long)type);
       }
 }
@@ -143,47 +143,47 @@ static void reconstruct_refuses(void) {
   const struct call good = {48, 8, 6, 1, 1, 0, 16, 4, 4, 0, false, 8};
   struct call c = good;
   c.ac_quant = 8160;
-  reconstruct_refused(c, 15, 16450, BRACETWILL_COEFFICIENT, "reconstruction: coefficient");
-  reconstruct_refused(c, 15, 16451, BRACETWILL_TOKEN, "reconstruction: token");
-  reconstruct_refused(c, 15, INT64_MIN, BRACETWILL_TOKEN, "reconstruction: the least token");
+  reconstruct_refused(c, 15, 16450, BRACETWILL_ANSWER_COEFFICIENT, "reconstruction: coefficient");
+  reconstruct_refused(c, 15, 16451, BRACETWILL_ANSWER_TOKEN, "reconstruction: token");
+  reconstruct_refused(c, 15, INT64_MIN, BRACETWILL_ANSWER_TOKEN, "reconstruction: the least token");
   c.samples_len = 47;
-  reconstruct_refused(c, 15, 16451, BRACETWILL_PLANE, "reconstruction: one sample short");
+  reconstruct_refused(c, 15, 16451, BRACETWILL_ANSWER_PLANE, "reconstruction: one sample short");
   c.samples_len = 49;
-  reconstruct_refused(c, 15, 16451, BRACETWILL_PLANE, "reconstruction: one sample more");
+  reconstruct_refused(c, 15, 16451, BRACETWILL_ANSWER_PLANE, "reconstruction: one sample more");
   c.tokens_len = 15;
-  reconstruct_refused(c, 15, 16451, BRACETWILL_LENGTH, "reconstruction: one token short");
+  reconstruct_refused(c, 15, 16451, BRACETWILL_ANSWER_LENGTH, "reconstruction: one token short");
   c.tokens_len = 17;
-  reconstruct_refused(c, 15, 16451, BRACETWILL_LENGTH, "reconstruction: one token more");
+  reconstruct_refused(c, 15, 16451, BRACETWILL_ANSWER_LENGTH, "reconstruction: one token more");
   c.dc_quant = 0;
-  reconstruct_refused(c, 15, 16451, BRACETWILL_QUANTIZER, "reconstruction: DC quantizer 0");
+  reconstruct_refused(c, 15, 16451, BRACETWILL_ANSWER_QUANTIZER, "reconstruction: DC quantizer 0");
   c.dc_quant = BRACETWILL_QUANT_LIMIT + 1;
-  reconstruct_refused(c, 15, 16451, BRACETWILL_QUANTIZER, "reconstruction: DC quantizer 32768");
+  reconstruct_refused(c, 15, 16451, BRACETWILL_ANSWER_QUANTIZER, "reconstruction: DC quantizer 32768");
   c.dc_quant = 4;
   c.ac_quant = INT32_MIN;
-  reconstruct_refused(c, 15, 16451, BRACETWILL_QUANTIZER, "reconstruction: AC quantizer");
+  reconstruct_refused(c, 15, 16451, BRACETWILL_ANSWER_QUANTIZER, "reconstruction: AC quantizer");
   c.tx_type = 4;
-  reconstruct_refused(c, 15, 16451, BRACETWILL_TX_TYPE, "reconstruction: type");
+  reconstruct_refused(c, 15, 16451, BRACETWILL_ANSWER_TX_TYPE, "reconstruction: type");
   c.tx_sz = 3;
   c.tx_type = 1;
-  reconstruct_refused(c, 15, 16451, BRACETWILL_TX_TYPE, "reconstruction: ADST at 32 by 32");
+  reconstruct_refused(c, 15, 16451, BRACETWILL_ANSWER_TX_TYPE, "reconstruction: ADST at 32 by 32");
   c.lossless = true;
-  reconstruct_refused(c, 15, 16451, BRACETWILL_LOSSLESS_SIZE, "reconstruction: lossless");
+  reconstruct_refused(c, 15, 16451, BRACETWILL_ANSWER_LOSSLESS_SIZE, "reconstruction: lossless");
   c.tx_sz = 4;
-  reconstruct_refused(c, 15, 16451, BRACETWILL_SIZE, "reconstruction: size");
+  reconstruct_refused(c, 15, 16451, BRACETWILL_ANSWER_SIZE, "reconstruction: size");
   c.bit_depth = 9;
-  reconstruct_refused(c, 15, 16451, BRACETWILL_DEPTH, "reconstruction: depth");
+  reconstruct_refused(c, 15, 16451, BRACETWILL_ANSWER_DEPTH, "reconstruction: depth");
   c = good;
   c.width = BRACETWILL_SIDE_LIMIT + 1;
   c.height = 1;
   c.samples_len = BRACETWILL_SIDE_LIMIT + 1;
-  reconstruct_refused(c, 0, 0, BRACETWILL_PLANE, "reconstruction: width above its limit");
+  reconstruct_refused(c, 0, 0, BRACETWILL_ANSWER_PLANE, "reconstruction: width above its limit");
   c.width = 1;
   c.height = BRACETWILL_SIDE_LIMIT + 1;
-  reconstruct_refused(c, 0, 0, BRACETWILL_PLANE, "reconstruction: height above its limit");
+  reconstruct_refused(c, 0, 0, BRACETWILL_ANSWER_PLANE, "reconstruction: height above its limit");
   c.width = c.height = (size_t)1 << 63;
   c.samples_len = 0;
-  reconstruct_refused(c, 0, 0, BRACETWILL_PLANE, "reconstruction: width times height wraps to 0");
-  equal(bracetwill_reconstruct_block(NULL, 0, 0, 0, 0, 0, 0, NULL, 0, 4, 4, 0, false, 8), BRACETWILL_LENGTH, "reconstruction: no lists");
+  reconstruct_refused(c, 0, 0, BRACETWILL_ANSWER_PLANE, "reconstruction: width times height wraps to 0");
+  equal(bracetwill_reconstruct_block(NULL, 0, 0, 0, 0, 0, 0, NULL, 0, 4, 4, 0, false, 8), BRACETWILL_ANSWER_LENGTH, "reconstruction: no lists");
 }
 
 /* What stands at each limit is taken. */
@@ -192,26 +192,26 @@ static void reconstruct_takes(void) {
   plane_of(100);
   zeros();
   list[15] = 16450;
-  equal(reconstruct(c), BRACETWILL_DONE, "reconstruction: 134215550");
+  equal(reconstruct(c), BRACETWILL_ANSWER_DONE, "reconstruction: 134215550");
   c.ac_quant = 8160;
-  equal(reconstruct(c), BRACETWILL_COEFFICIENT, "reconstruction: 8160");
+  equal(reconstruct(c), BRACETWILL_ANSWER_COEFFICIENT, "reconstruction: 8160");
   c.tx_sz = 3;
   c.tokens_len = 1024;
   c.ac_quant = 16318;
-  equal(reconstruct(c), BRACETWILL_DONE, "reconstruction: 16318 at 32 by 32");
+  equal(reconstruct(c), BRACETWILL_ANSWER_DONE, "reconstruction: 16318 at 32 by 32");
   c.ac_quant = 16319;
-  equal(reconstruct(c), BRACETWILL_COEFFICIENT, "reconstruction: 16319 at 32 by 32");
+  equal(reconstruct(c), BRACETWILL_ANSWER_COEFFICIENT, "reconstruction: 16319 at 32 by 32");
   const struct call widest = {65535, 65535, 1, 65533, 0, 0, 16, 4, 4, 0, true, 8};
   plane_of(100);
   zeros();
   list[0] = 5;
-  equal(reconstruct(widest), BRACETWILL_DONE, "reconstruction: the widest plane");
+  equal(reconstruct(widest), BRACETWILL_ANSWER_DONE, "reconstruction: the widest plane");
   samples_before[65533] = 102;
   samples_before[65534] = 101;
   check(same(samples, samples_before, sizeof samples), "reconstruction: the widest plane's end", 0, 0);
   const struct call none = {0, 0, 65535, 0, 0, 0, 16, 4, 4, 0, true, 8};
-  equal(reconstruct(none), BRACETWILL_DONE, "reconstruction: no sample");
-  equal(bracetwill_reconstruct_block(NULL, 0, 0, 0, 7, 7, 0, list, 16, 4, 4, 0, true, 8), BRACETWILL_DONE, "reconstruction: no plane");
+  equal(reconstruct(none), BRACETWILL_ANSWER_DONE, "reconstruction: no sample");
+  equal(bracetwill_reconstruct_block(NULL, 0, 0, 0, 7, 7, 0, list, 16, 4, 4, 0, true, 8), BRACETWILL_ANSWER_DONE, "reconstruction: no plane");
 }
 
 /* A plane of 6 by 5: at (4, 3) two rows and two columns are written, at x = 6 none. */
@@ -220,15 +220,15 @@ static void reconstruct_cut(void) {
   plane_of(100);
   zeros();
   list[0] = 5;
-  equal(reconstruct(c), BRACETWILL_DONE, "cut: done");
+  equal(reconstruct(c), BRACETWILL_ANSWER_DONE, "cut: done");
   samples_before[3 * 6 + 4] = 102;
   samples_before[3 * 6 + 5] = samples_before[4 * 6 + 4] = samples_before[4 * 6 + 5] = 101;
   check(same(samples, samples_before, sizeof samples), "cut: the plane", 0, 0);
   c.x = 6;
-  equal(reconstruct(c), BRACETWILL_DONE, "cut: at the right edge");
+  equal(reconstruct(c), BRACETWILL_ANSWER_DONE, "cut: at the right edge");
   c.x = SIZE_MAX;
   c.y = SIZE_MAX;
-  equal(reconstruct(c), BRACETWILL_DONE, "cut: far out");
+  equal(reconstruct(c), BRACETWILL_ANSWER_DONE, "cut: far out");
   check(same(samples, samples_before, sizeof samples), "cut: the plane stays", 0, 0);
 }
 
@@ -240,12 +240,12 @@ static void reconstruct_clips(void) {
     struct call c = {16, 4, 4, 0, 0, 0, 16, 4, 4, 0, false, depths[d]};
     plane_of(65535);
     zeros();
-    equal(reconstruct(c), BRACETWILL_DONE, "clip: zero residual");
+    equal(reconstruct(c), BRACETWILL_ANSWER_DONE, "clip: zero residual");
     for (size_t k = 0; k < 16; k++) equal(samples[k], tops[d], "clip: a sample");
     equal(samples[16], 65535, "clip: past the plane");
     list[0] = -16450;
     c.dc_quant = 100;
-    equal(reconstruct(c), BRACETWILL_DONE, "clip: below zero");
+    equal(reconstruct(c), BRACETWILL_ANSWER_DONE, "clip: below zero");
     for (size_t k = 0; k < 16; k++) equal(samples[k], 0, "clip: a sample of 0");
   }
 }
@@ -257,9 +257,9 @@ static void reconstruct_halves(void) {
     plane_of(100);
     zeros();
     list[0] = 801 * sign;
-    equal(reconstruct(c), BRACETWILL_DONE, "halves: reconstruction");
+    equal(reconstruct(c), BRACETWILL_ANSWER_DONE, "halves: reconstruction");
     list[0] = 2803 * sign;
-    equal(bracetwill_inverse_transform_2d(list, 1024, 5, 0, false), BRACETWILL_DONE, "halves: driver");
+    equal(bracetwill_inverse_transform_2d(list, 1024, 5, 0, false), BRACETWILL_ANSWER_DONE, "halves: driver");
     check(list[0] != 0, "halves: a residual", (long long)list[0], 0);
     for (size_t k = 0; k < 1024; k++) equal(samples[k], 100 + list[k], "halves: a sample");
   }
@@ -269,23 +269,23 @@ static void forward_wht(void) {
   zeros();
   list[0] = 5;
   list[16] = 77;
-  equal(bracetwill_forward_wht_2d(list, 16), BRACETWILL_DONE, "forward WHT");
+  equal(bracetwill_forward_wht_2d(list, 16), BRACETWILL_ANSWER_DONE, "forward WHT");
   for (size_t k = 0; k < 16; k++) equal(list[k], k == 0 ? 2 : 1, "forward WHT: a number");
   equal(list[16], 77, "forward WHT: past the block");
   const size_t lens[] = {0, 15, 17, MOST};
   for (size_t k = 0; k < 4; k++) {
     filled(0, BRACETWILL_WHT_LIMIT + 1);
-    equal(bracetwill_forward_wht_2d(list, lens[k]), BRACETWILL_LENGTH, "forward WHT: length");
+    equal(bracetwill_forward_wht_2d(list, lens[k]), BRACETWILL_ANSWER_LENGTH, "forward WHT: length");
     check(same(list, before, sizeof list), "forward WHT: length, unchanged", 0, 0);
   }
   const int64_t beyond[] = {BRACETWILL_WHT_LIMIT + 1, -BRACETWILL_WHT_LIMIT - 1, INT64_MAX, INT64_MIN};
   for (size_t k = 0; k < 4; k++) {
     filled(15, beyond[k]);
-    equal(bracetwill_forward_wht_2d(list, 16), BRACETWILL_COEFFICIENT, "forward WHT: beyond");
+    equal(bracetwill_forward_wht_2d(list, 16), BRACETWILL_ANSWER_COEFFICIENT, "forward WHT: beyond");
     check(same(list, before, sizeof list), "forward WHT: beyond, unchanged", 0, 0);
   }
   filled(15, BRACETWILL_WHT_LIMIT);
-  equal(bracetwill_forward_wht_2d(list, 16), BRACETWILL_DONE, "forward WHT: the limit");
+  equal(bracetwill_forward_wht_2d(list, 16), BRACETWILL_ANSWER_DONE, "forward WHT: the limit");
 }
 
 static void quantize_refused(size_t len, int32_t dc, int32_t ac, uint32_t size, uint32_t depth, int64_t value, uint32_t want, const char *what) {
@@ -302,35 +302,35 @@ static void quantizers(void) {
   const int64_t beyond = BRACETWILL_COEF_LIMIT + 1;
   const int64_t of[][2] = {{2, 0}, {3, 1}, {6, 1}, {7, 2}, {-2, 0}, {-3, -1}, {-6, -1}, {-7, -2}};
   for (size_t k = 0; k < 8; k++) list[k] = of[k][0];
-  equal(bracetwill_quantize_block(list, 8, 4, 4), BRACETWILL_DONE, "quantizer 4");
+  equal(bracetwill_quantize_block(list, 8, 4, 4), BRACETWILL_ANSWER_DONE, "quantizer 4");
   for (size_t k = 0; k < 8; k++) equal(list[k], of[k][1], "quantizer 4: a token");
   list[0] = list[1] = 2;
-  equal(bracetwill_quantize_block_tx(list, 2, 3, 5, 3, 8), BRACETWILL_DONE, "quantizer 3 at 32 by 32");
+  equal(bracetwill_quantize_block_tx(list, 2, 3, 5, 3, 8), BRACETWILL_ANSWER_DONE, "quantizer 3 at 32 by 32");
   equal(list[0], 1, "quantizer 3 at 32 by 32: token 0 is of the DC quantizer");
   equal(list[1], 1, "quantizer 5 at 32 by 32");
   list[0] = list[1] = 9;
-  equal(bracetwill_quantize_block_tx(list, 2, 3, 5, 0, 10), BRACETWILL_DONE, "DC and AC");
+  equal(bracetwill_quantize_block_tx(list, 2, 3, 5, 0, 10), BRACETWILL_ANSWER_DONE, "DC and AC");
   equal(list[0], 3, "DC: a token");
   equal(list[1], 2, "AC: a token");
   const uint32_t depths[] = {8, 10, 12};
   for (size_t d = 0; d < 3; d++) {
     list[0] = BRACETWILL_COEF_LIMIT;
     list[1] = -BRACETWILL_COEF_LIMIT;
-    equal(bracetwill_quantize_block_tx(list, 2, 1, 1, 0, depths[d]), BRACETWILL_DONE, "quantizer: the limit");
+    equal(bracetwill_quantize_block_tx(list, 2, 1, 1, 0, depths[d]), BRACETWILL_ANSWER_DONE, "quantizer: the limit");
     equal(list[0], bracetwill_max_codeable_coef(depths[d]), "quantizer: the cap");
     equal(list[1], -bracetwill_max_codeable_coef(depths[d]), "quantizer: the cap below zero");
   }
-  equal(bracetwill_quantize_block(NULL, 0, 1, 1), BRACETWILL_DONE, "quantizer: no list");
-  equal(bracetwill_quantize_block_tx(NULL, 0, 1, 1, 3, 12), BRACETWILL_DONE, "quantizer: no list, any size");
-  quantize_refused(16, 1, 1, 0, 8, beyond, BRACETWILL_COEFFICIENT, "quantizer: beyond");
-  quantize_refused(BRACETWILL_LIST_LIMIT, 1, 1, 3, 12, -beyond, BRACETWILL_COEFFICIENT, "quantizer: last beyond");
-  quantize_refused(BRACETWILL_LIST_LIMIT, 1, 1, 3, 12, INT64_MIN, BRACETWILL_COEFFICIENT, "quantizer: the least number");
-  quantize_refused(BRACETWILL_LIST_LIMIT + 1, 1, 1, 0, 8, beyond, BRACETWILL_LENGTH, "quantizer: length");
-  quantize_refused(BRACETWILL_LIST_LIMIT + 1, 0, 1, 0, 8, beyond, BRACETWILL_QUANTIZER, "quantizer: DC 0");
-  quantize_refused(BRACETWILL_LIST_LIMIT + 1, 1, 32768, 0, 8, beyond, BRACETWILL_QUANTIZER, "quantizer: AC 32768");
-  quantize_refused(0, INT32_MIN, INT32_MAX, 0, 8, 0, BRACETWILL_QUANTIZER, "quantizer: of no list");
-  quantize_refused(BRACETWILL_LIST_LIMIT + 1, 0, 0, 4, 8, beyond, BRACETWILL_SIZE, "quantizer: size");
-  quantize_refused(BRACETWILL_LIST_LIMIT + 1, 0, 0, 4, 9, beyond, BRACETWILL_DEPTH, "quantizer: depth");
+  equal(bracetwill_quantize_block(NULL, 0, 1, 1), BRACETWILL_ANSWER_DONE, "quantizer: no list");
+  equal(bracetwill_quantize_block_tx(NULL, 0, 1, 1, 3, 12), BRACETWILL_ANSWER_DONE, "quantizer: no list, any size");
+  quantize_refused(16, 1, 1, 0, 8, beyond, BRACETWILL_ANSWER_COEFFICIENT, "quantizer: beyond");
+  quantize_refused(BRACETWILL_LIST_LIMIT, 1, 1, 3, 12, -beyond, BRACETWILL_ANSWER_COEFFICIENT, "quantizer: last beyond");
+  quantize_refused(BRACETWILL_LIST_LIMIT, 1, 1, 3, 12, INT64_MIN, BRACETWILL_ANSWER_COEFFICIENT, "quantizer: the least number");
+  quantize_refused(BRACETWILL_LIST_LIMIT + 1, 1, 1, 0, 8, beyond, BRACETWILL_ANSWER_LENGTH, "quantizer: length");
+  quantize_refused(BRACETWILL_LIST_LIMIT + 1, 0, 1, 0, 8, beyond, BRACETWILL_ANSWER_QUANTIZER, "quantizer: DC 0");
+  quantize_refused(BRACETWILL_LIST_LIMIT + 1, 1, 32768, 0, 8, beyond, BRACETWILL_ANSWER_QUANTIZER, "quantizer: AC 32768");
+  quantize_refused(0, INT32_MIN, INT32_MAX, 0, 8, 0, BRACETWILL_ANSWER_QUANTIZER, "quantizer: of no list");
+  quantize_refused(BRACETWILL_LIST_LIMIT + 1, 0, 0, 4, 8, beyond, BRACETWILL_ANSWER_SIZE, "quantizer: size");
+  quantize_refused(BRACETWILL_LIST_LIMIT + 1, 0, 0, 4, 9, beyond, BRACETWILL_ANSWER_DEPTH, "quantizer: depth");
   equal(bracetwill_max_codeable_coef(8), 16450, "codeable limit at 8");
   equal(bracetwill_max_codeable_coef(10), 65602, "codeable limit at 10");
   equal(bracetwill_max_codeable_coef(12), 262210, "codeable limit at 12");
@@ -440,32 +440,32 @@ static void header_refused(uint32_t want, const char *what) {
 static void headers_refused(void) {
   listing();
   file_len = BRACETWILL_FILE_LIMIT + 1;
-  header_refused(BRACETWILL_TOO_LARGE, "VBK: 65536 bytes");
+  header_refused(BRACETWILL_ANSWER_TOO_LARGE, "VBK: 65536 bytes");
   listing();
   file_len = 9;
-  header_refused(BRACETWILL_CUT_SHORT, "VBK: 9 bytes");
+  header_refused(BRACETWILL_ANSWER_CUT_SHORT, "VBK: 9 bytes");
   file_len = 0;
-  header_refused(BRACETWILL_CUT_SHORT, "VBK: no byte");
+  header_refused(BRACETWILL_ANSWER_CUT_SHORT, "VBK: no byte");
   for (size_t k = 0; k < 3; k++) {
     listing();
     file[k] ^= 32;
-    header_refused(BRACETWILL_MARK, "VBK: mark");
+    header_refused(BRACETWILL_ANSWER_MARK, "VBK: mark");
   }
   listing();
   file[4] = 1;
-  header_refused(BRACETWILL_VERSION, "VBK: version");
+  header_refused(BRACETWILL_ANSWER_VERSION, "VBK: version");
   header(9, 4, 4);
-  header_refused(BRACETWILL_DEPTH, "VBK: depth");
+  header_refused(BRACETWILL_ANSWER_DEPTH, "VBK: depth");
   header(8, 0, 4);
-  header_refused(BRACETWILL_TOO_LARGE, "VBK: no sample");
+  header_refused(BRACETWILL_ANSWER_TOO_LARGE, "VBK: no sample");
   header(8, 4097, 1);
-  header_refused(BRACETWILL_TOO_LARGE, "VBK: 4097 samples");
+  header_refused(BRACETWILL_ANSWER_TOO_LARGE, "VBK: 4097 samples");
   header(8, 4, 4);
   file_len--;
-  header_refused(BRACETWILL_CUT_SHORT, "VBK: samples cut short");
+  header_refused(BRACETWILL_ANSWER_CUT_SHORT, "VBK: samples cut short");
   rooms();
   equal(bracetwill_replay(NULL, 0, samples, BRACETWILL_SAMPLES_ROOM, answers, BRACETWILL_ANSWERS_ROOM, figures, BRACETWILL_FIGURES),
-        BRACETWILL_CUT_SHORT, "VBK: no file");
+        BRACETWILL_ANSWER_CUT_SHORT, "VBK: no file");
 }
 
 static void rooms_refused(void) {
@@ -477,7 +477,7 @@ static void rooms_refused(void) {
       room[r] = less == 0 ? full[r] - 1 : 0;
       listing();
       rooms();
-      equal(bracetwill_replay(file, file_len, samples, room[0], answers, room[1], figures, room[2]), BRACETWILL_LENGTH, "room of a run");
+      equal(bracetwill_replay(file, file_len, samples, room[0], answers, room[1], figures, room[2]), BRACETWILL_ANSWER_LENGTH, "room of a run");
       check(kept(0, 0, 0, 0), "room of a run: unchanged", (long long)r, 0);
       const size_t bytes = r < 2 ? BRACETWILL_TEXT_ROOM : less == 0 ? BRACETWILL_TEXT_ROOM - 1 : 0;
       equal((long long)bracetwill_blockrun(file, file_len, samples, room[0], answers, room[1], text, bytes), 0, "room of a text");
@@ -488,7 +488,7 @@ static void rooms_refused(void) {
 static void listing_runs(void) {
   listing();
   rooms();
-  equal(replay(), BRACETWILL_DONE, "listing: done");
+  equal(replay(), BRACETWILL_ANSWER_DONE, "listing: done");
   for (size_t k = 0; k < 16; k++) equal(samples[k], k == 0 ? 102 : 101, "listing: a sample");
   equal(answers[0], 0, "listing: the record's answer");
   const uint64_t want[BRACETWILL_FIGURES] = {8, 4, 4, 1, 16};
@@ -497,7 +497,7 @@ static void listing_runs(void) {
   prints("VBK 1 8 4 4\nB 0 0\nS 102 101 101 101\nS 101 101 101 101\nS 101 101 101 101\nS 101 101 101 101\nT 16\n", 16, 1, "listing: the text");
   /* rooms larger than is needed do the same */
   rooms();
-  equal(bracetwill_replay(file, file_len, samples, SAMPLES, answers, sizeof answers, figures, BRACETWILL_FIGURES + 3), BRACETWILL_DONE, "large rooms");
+  equal(bracetwill_replay(file, file_len, samples, SAMPLES, answers, sizeof answers, figures, BRACETWILL_FIGURES + 3), BRACETWILL_ANSWER_DONE, "large rooms");
   check(kept(16, 1, BRACETWILL_FIGURES, 0), "large rooms: the rest stays", 0, 0);
 }
 
@@ -518,7 +518,7 @@ static void records_answered(void) {
   record(0, 0, 1, 4, 4, 0);
   file_len--;
   rooms();
-  equal(replay(), BRACETWILL_DONE, "records: done");
+  equal(replay(), BRACETWILL_ANSWER_DONE, "records: done");
   equal((long long)figures[BRACETWILL_FIGURE_RECORDS], sizeof want, "records: how many");
   equal((long long)figures[BRACETWILL_FIGURE_TOUCHED], 16 + 1024, "records: the touched count");
   for (size_t k = 0; k < sizeof want; k++) equal(answers[k], want[k], "records: an answer");
@@ -533,8 +533,8 @@ static void records_answered(void) {
 }
 
 static void meanings(void) {
-  for (uint32_t k = 0; k <= BRACETWILL_LOSSLESS_BYTE; k++)
-    for (uint32_t j = 0; j <= BRACETWILL_LOSSLESS_BYTE + 1; j++) {
+  for (uint32_t k = 0; k <= BRACETWILL_ANSWER_LOSSLESS_BYTE; k++)
+    for (uint32_t j = 0; j <= BRACETWILL_ANSWER_LOSSLESS_BYTE + 1; j++) {
       const char *a = bracetwill_answer_meaning(k), *b = bracetwill_answer_meaning(j);
       const bool alike = length(a) == length(b) && same(a, b, length(a));
       check(alike == (k == j), "each number has its own meaning", k, j);

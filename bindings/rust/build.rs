@@ -1,6 +1,6 @@
-//! Finds the archive of proved calls, target/staticlib/libexports.a, and has the crate linked with it.
-//! BRACETWILL_LIB_DIR names a folder that has it already; else bindings/archive looks whether it is there and no older than the
-//! sources, and else proves and writes it by `rt staticlib exports`, which needs the Rattle kit.
+//! Finds the archive of proved calls, libbracetwill.a, and has the crate linked with it.
+//! BRACETWILL_LIB_DIR names a folder that has it already; else bindings/archive looks whether the repository's is there and no older than
+//! the sources, and else proves and writes it, which needs the Rattle kit and minutes. The crate in notice/ says so before this starts.
 use std::path::{Path, PathBuf};
 use std::process::Command;
 
@@ -24,13 +24,13 @@ fn link() -> Result<(), String> {
         Some(dir) => PathBuf::from(dir),
         None => written(&Path::new(&of("CARGO_MANIFEST_DIR")?).join("../.."))?,
     };
-    let archive = dir.join("libexports.a");
+    let archive = dir.join("libbracetwill.a");
     if !archive.is_file() {
         return Err(format!("there is no {}", archive.display()));
     }
     println!("cargo::rerun-if-changed={}", archive.display());
     println!("cargo::rustc-link-search=native={}", dir.display());
-    println!("cargo::rustc-link-lib=static=exports");
+    println!("cargo::rustc-link-lib=static=bracetwill");
     Ok(())
 }
 
@@ -42,9 +42,9 @@ fn written(root: &Path) -> Result<PathBuf, String> {
     let made = Command::new("sh").arg(root.join("bindings/archive")).output();
     let made = made.map_err(|e| format!("bindings/archive could not be run: {e}"))?;
     if !made.status.success() {
-        let said = String::from_utf8_lossy(if made.stderr.is_empty() { &made.stdout } else { &made.stderr }).into_owned();
+        let said = String::from_utf8_lossy(&made.stderr).into_owned();
         let last = said.lines().last().unwrap_or("nothing was said");
-        return Err(format!("the archive could not be written: {last}. Set BRACETWILL_LIB_DIR to a folder that has libexports.a"));
+        return Err(format!("the archive could not be written: {last}. Set BRACETWILL_LIB_DIR to a folder that has libbracetwill.a"));
     }
     Ok(root.join("target/staticlib"))
 }

@@ -7,22 +7,10 @@ use crate::rng::Rng;
 use crate::{ask, cases, files, vbk};
 use std::panic::{AssertUnwindSafe, catch_unwind};
 
-// The exported calls: a list is a pointer and a length.
-#[rustfmt::skip]
-unsafe extern "C" {
-    fn bracetwill_inverse_transform_2d(block: *mut i64, len: usize, n: u32, tx_type: u8, lossless: bool) -> u32;
-    fn bracetwill_inverse_transform_2d_reference(block: *mut i64, len: usize, n: u32, tx_type: u8, lossless: bool) -> u32;
-    fn bracetwill_reconstruct_block(samples: *mut u16, len: usize, width: usize, height: usize, x: usize, y: usize, tx_sz: u32,
-        tokens: *const i64, count: usize, dc: i32, ac: i32, tx_type: u8, lossless: bool, bit_depth: u32) -> u32;
-    fn bracetwill_forward_wht_2d(block: *mut i64, len: usize) -> u32;
-    fn bracetwill_quantize_block_tx(coefs: *mut i64, len: usize, dc: i32, ac: i32, tx_sz: u32, bit_depth: u32) -> u32;
-    fn bracetwill_quantize_block(coefs: *mut i64, len: usize, dc: i32, ac: i32) -> u32;
-    fn bracetwill_max_codeable_coef(bit_depth: u32) -> i64;
-    fn bracetwill_replay(file: *const u8, len: usize, samples: *mut u16, area: usize, answers: *mut u8, records: usize,
-        figures: *mut u64, count: usize) -> u32;
-    fn bracetwill_blockrun(file: *const u8, len: usize, samples: *mut u16, area: usize, answers: *mut u8, records: usize,
-        out: *mut u8, room: usize) -> usize;
-}
+// The exported calls, as the header declares them.
+#[path = "../../bindings/rust/src/archive.rs"]
+mod archive;
+use archive::*;
 
 /// The kinds that are exported.
 const KINDS: [u32; 8] = [20, 21, 22, 23, 24, 25, 26, 30];

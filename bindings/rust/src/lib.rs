@@ -3,83 +3,70 @@
 //!
 //! Each call stands here twice. The one of the Rust's name gives nothing back, as the Rust's does, and panics where the call is refused: a
 //! decoder that only changed its `use` line never goes on with numbers that were not worked out. The one with `try_` before its name hands
-//! the [`Refusal`] back, and is for input that nobody has checked. A refusal leaves everything lent as it was, in both.
+//! the [`Refusal`] back, and is for input that nobody has checked: it belongs in a decoder. A refusal leaves everything lent as it was, in both.
+//!
+//! Tokens and coefficients stand in raster order, row by row, and not in scan order. Quantizers are the multipliers that the tables hold, and
+//! not indexes into the tables. Samples are 16 bit at every depth.
+//!
+//! ```
+//! use bracetwill::Refusal;
+//! use bracetwill::intra::Plane;
+//! use bracetwill::reconstruct::try_reconstruct_block;
+//!
+//! // a plane that holds the prediction, and a lossless block whose first token is 5
+//! let mut plane = Plane::new(4, 4);
+//! plane.samples_mut().fill(100);
+//! let mut tokens = [0; 16];
+//! tokens[0] = 5;
+//! try_reconstruct_block(&mut plane, 0, 0, 0, &tokens, 4, 4, 0, true, 8)?;
+//! assert_eq!(plane.samples()[..4], [102, 101, 101, 101]);
+//!
+//! // a token that no stream of depth 8 can code: the refusal says why, and the plane stays
+//! let before = plane.clone();
+//! tokens[0] = 16_451;
+//! let why = try_reconstruct_block(&mut plane, 0, 0, 0, &tokens, 4, 4, 0, true, 8).unwrap_err();
+//! assert_eq!((why, why.number()), (Refusal::Token, 8));
+//! assert_eq!(plane, before);
+//! # Ok::<(), Refusal>(())
+//! ```
+#![deny(missing_docs)]
 use std::fmt;
 
-/// The archive's functions. A slice crosses as its pointer and its length.
-mod archive {
-    #[rustfmt::skip]
-    unsafe extern "C" {
-        pub fn bracetwill_inverse_transform_2d(block: *mut i64, block_len: usize, n: u32, tx_type: u8, lossless: bool) -> u32;
-        pub fn bracetwill_inverse_transform_2d_reference(block: *mut i64, block_len: usize, n: u32, tx_type: u8, lossless: bool) -> u32;
-        pub fn bracetwill_reconstruct_block(
-            samples: *mut u16, samples_len: usize, width: usize, height: usize, x: usize, y: usize, tx_sz: u32,
-            tokens: *const i64, tokens_len: usize, dc_quant: i32, ac_quant: i32, tx_type: u8, lossless: bool, bit_depth: u32,
-        ) -> u32;
-        pub fn bracetwill_forward_wht_2d(block: *mut i64, block_len: usize) -> u32;
-        pub fn bracetwill_quantize_block_tx(coefs: *mut i64, coefs_len: usize, dc_quant: i32, ac_quant: i32, tx_sz: u32, bit_depth: u32) -> u32;
-        pub fn bracetwill_quantize_block(coefs: *mut i64, coefs_len: usize, dc_quant: i32, ac_quant: i32) -> u32;
-        pub fn bracetwill_max_codeable_coef(bit_depth: u32) -> i64;
-        pub fn bracetwill_replay(
-            file: *const u8, file_len: usize, samples: *mut u16, samples_len: usize,
-            answers: *mut u8, answers_len: usize, figures: *mut u64, figures_len: usize,
-        ) -> u32;
-        pub fn bracetwill_blockrun(
-            file: *const u8, file_len: usize, samples: *mut u16, samples_len: usize,
-            answers: *mut u8, answers_len: usize, text: *mut u8, text_len: usize,
-        ) -> usize;
-    }
-}
+mod archive;
+mod refusal;
+pub use refusal::Refusal;
+use refusal::REFUSALS;
 
-/// Why a call was refused: an answer above 0. Its number is `self as u32`.
-#[derive(Clone, Copy, Debug, PartialEq, Eq, Hash)]
-#[non_exhaustive]
-#[repr(u32)]
-pub enum Refusal {
-    Depth = 1,
-    Size,
-    LosslessSize,
-    TxType,
-    Quantizer,
-    Length,
-    Plane,
-    Token,
-    Coefficient,
-    Mark,
-    Version,
-    CutShort,
-    TooLarge,
-    LosslessByte,
-}
-
-/// Every refusal and its meaning, in the order of the numbers, which begin with 1.
-const REFUSALS: [(Refusal, &str); 14] = [
-    (Refusal::Depth, "the bit depth is not 8, 10 or 12"),
-    (Refusal::Size, "there is no such transform size"),
-    (Refusal::LosslessSize, "lossless with a size other than 4 by 4"),
-    (Refusal::TxType, "there is no such transform type, or not at 32 by 32"),
-    (Refusal::Quantizer, "a quantizer is outside 1 to 32767"),
-    (Refusal::Length, "a list has the wrong length"),
-    (Refusal::Plane, "the plane's width or height is above 65535, or its samples are not width times height"),
-    (Refusal::Token, "a token's magnitude is above the depth's codeable limit"),
-    (Refusal::Coefficient, "a coefficient is beyond its limit"),
-    (Refusal::Mark, "VBK: the mark is not there"),
-    (Refusal::Version, "VBK: the version is not 1"),
-    (Refusal::CutShort, "VBK: the header, the samples or a record is cut short"),
-    (Refusal::TooLarge, "VBK: the file is above 65535 bytes, or its plane has not 1 to 4096 samples"),
-    (Refusal::LosslessByte, "VBK: a record's lossless byte is above 1"),
-];
+/// The version of the crate, of the header and of the archive.
+///
+/// ```
+/// assert_eq!(bracetwill::VERSION.split('.').count(), 3);
+/// ```
+pub const VERSION: &str = env!("CARGO_PKG_VERSION");
 
 impl Refusal {
-    /// The answer's number, 1 to 14.
+    /// The answer's number.
+    ///
+    /// ```
+    /// assert_eq!(bracetwill::Refusal::Coefficient.number(), 9);
+    /// ```
     pub fn number(self) -> u32 {
         self as u32
+    }
+
+    /// When, and only when, it is given.
+    ///
+    /// ```
+    /// assert_eq!(bracetwill::Refusal::Quantizer.meaning(), "a quantizer outside 1 to 32,767");
+    /// ```
+    pub fn meaning(self) -> &'static str {
+        REFUSALS.iter().find(|(refusal, _)| *refusal == self).map_or("", |(_, meaning)| meaning)
     }
 }
 
 impl fmt::Display for Refusal {
     fn fmt(&self, f: &mut fmt::Formatter<'_>) -> fmt::Result {
-        write!(f, "answer {}: {}", self.number(), REFUSALS[self.number() as usize - 1].1)
+        write!(f, "answer {}: {}", self.number(), self.meaning())
     }
 }
 
@@ -87,10 +74,12 @@ impl std::error::Error for Refusal {}
 
 /// An answer's number as a result: 0 is done.
 fn answer(number: u32) -> Result<(), Refusal> {
-    match number {
-        0 => Ok(()),
-        1..=14 => Err(REFUSALS[number as usize - 1].0),
-        _ => panic!("the archive is of another version: answer {number}"),
+    if number == 0 {
+        return Ok(());
+    }
+    match REFUSALS.iter().find(|(refusal, _)| refusal.number() == number) {
+        Some((refusal, _)) => Err(*refusal),
+        None => panic!("the archive is of another version: answer {number}"),
     }
 }
 
@@ -102,45 +91,95 @@ fn taken(call: &str, result: Result<(), Refusal>) {
     }
 }
 
+/// The inverse transforms of a block (the Rust's `idct.rs`).
 pub mod idct {
     use super::{Refusal, answer, archive, taken};
 
+    /// Rows DCT, columns DCT.
     pub const DCT_DCT: u8 = 0;
     /// Rows DCT, columns ADST.
     pub const ADST_DCT: u8 = 1;
     /// Rows ADST, columns DCT.
     pub const DCT_ADST: u8 = 2;
+    /// Rows ADST, columns ADST.
     pub const ADST_ADST: u8 = 3;
 
-    /// The residual of the first n0 × n0 numbers, n0 = 2^n, in their place; numbers past them stay. Refused with 2, 3, 4, 6 or 9.
+    /// The residual of the first n0 × n0 numbers, n0 = 2^n, in their place; numbers past them stay. `tx_type` is not looked at when
+    /// `lossless` is set. Refused with 2, 3, 4, 6 or 9.
+    ///
+    /// ```
+    /// use bracetwill::Refusal;
+    /// use bracetwill::idct::{DCT_DCT, try_inverse_transform_2d};
+    ///
+    /// // 4 by 4, the coefficient at place 0 alone: every residual is the same
+    /// let mut block = [0; 16];
+    /// block[0] = 16;
+    /// assert_eq!(try_inverse_transform_2d(&mut block, 2, DCT_DCT, false), Ok(()));
+    /// assert_eq!(block, [1; 16]);
+    ///
+    /// // too few numbers for 8 by 8
+    /// assert_eq!(try_inverse_transform_2d(&mut block, 3, DCT_DCT, false), Err(Refusal::Length));
+    /// assert_eq!(block, [1; 16]);
+    /// ```
     pub fn try_inverse_transform_2d(dequant: &mut [i64], n: u32, tx_type: u8, lossless: bool) -> Result<(), Refusal> {
         // SAFETY: a slice is as many numbers as its length says, set and aligned, and a `&mut` one is shared with nobody.
         answer(unsafe { archive::bracetwill_inverse_transform_2d(dequant.as_mut_ptr(), dequant.len(), n, tx_type, lossless) })
     }
 
     /// The same by the specification's recursive processes: the same block always, more slowly.
+    ///
+    /// ```
+    /// use bracetwill::idct::{ADST_DCT, try_inverse_transform_2d, try_inverse_transform_2d_reference};
+    ///
+    /// let mut fast: Vec<i64> = (0..64).map(|k| 37 * k % 101 - 50).collect();
+    /// let mut plain = fast.clone();
+    /// try_inverse_transform_2d(&mut fast, 3, ADST_DCT, false)?;
+    /// try_inverse_transform_2d_reference(&mut plain, 3, ADST_DCT, false)?;
+    /// assert_eq!(fast, plain);
+    /// # Ok::<(), bracetwill::Refusal>(())
+    /// ```
     pub fn try_inverse_transform_2d_reference(dequant: &mut [i64], n: u32, tx_type: u8, lossless: bool) -> Result<(), Refusal> {
         // SAFETY: as above.
         answer(unsafe { archive::bracetwill_inverse_transform_2d_reference(dequant.as_mut_ptr(), dequant.len(), n, tx_type, lossless) })
     }
 
     /// [`try_inverse_transform_2d`]; a refusal panics.
+    ///
+    /// ```
+    /// let mut block = [0; 16];
+    /// block[0] = 20;
+    /// bracetwill::idct::inverse_transform_2d(&mut block, 2, 0, true);
+    /// assert_eq!(block[..4], [2, 1, 1, 1]);
+    /// ```
     #[track_caller]
     pub fn inverse_transform_2d(dequant: &mut [i64], n: u32, tx_type: u8, lossless: bool) {
         taken("inverse_transform_2d", try_inverse_transform_2d(dequant, n, tx_type, lossless));
     }
 
     /// [`try_inverse_transform_2d_reference`]; a refusal panics.
+    ///
+    /// ```should_panic
+    /// // 32 by 32 has the type 0 alone
+    /// bracetwill::idct::inverse_transform_2d_reference(&mut [0; 1024], 5, 1, false);
+    /// ```
     #[track_caller]
     pub fn inverse_transform_2d_reference(dequant: &mut [i64], n: u32, tx_type: u8, lossless: bool) {
         taken("inverse_transform_2d_reference", try_inverse_transform_2d_reference(dequant, n, tx_type, lossless));
     }
 }
 
+/// A plane of samples (of the Rust's `intra.rs`).
 pub mod intra {
     use super::reconstruct::Samples;
 
     /// A plane of samples, row by row: the part of the Rust's `Plane` that reconstruction and its caller use.
+    ///
+    /// ```
+    /// let mut plane = bracetwill::intra::Plane::new(3, 2);
+    /// plane.set(2, 1, 77);
+    /// assert_eq!((plane.width(), plane.height(), plane.get(2, 1)), (3, 2, 77));
+    /// assert_eq!(plane.samples(), [0, 0, 0, 0, 0, 77]);
+    /// ```
     #[derive(Debug, Clone, PartialEq, Eq)]
     pub struct Plane {
         width: usize,
@@ -155,10 +194,12 @@ pub mod intra {
             Self { width, height, samples: vec![0; count] }
         }
 
+        /// Samples of a row.
         pub fn width(&self) -> usize {
             self.width
         }
 
+        /// How many rows there are.
         pub fn height(&self) -> usize {
             self.height
         }
@@ -175,10 +216,12 @@ pub mod intra {
             self.samples[y * self.width + x] = u16::try_from(value).expect("a sample out of range");
         }
 
+        /// The samples row by row.
         pub fn samples(&self) -> &[u16] {
             &self.samples
         }
 
+        /// The samples row by row, to write to.
         pub fn samples_mut(&mut self) -> &mut [u16] {
             &mut self.samples
         }
@@ -199,19 +242,66 @@ pub mod intra {
     }
 }
 
+/// The reconstruction of a block (the Rust's `reconstruct.rs`).
 pub mod reconstruct {
     use super::{Refusal, answer, archive, taken};
 
     /// What [`reconstruct_block`] needs of a plane. A decoder that has its own `Plane` says here where its samples are, and keeps it.
+    ///
+    /// ```
+    /// use bracetwill::reconstruct::{Samples, try_reconstruct_block};
+    ///
+    /// struct Grey {
+    ///     row: usize,
+    ///     samples: Vec<u16>,
+    /// }
+    ///
+    /// impl Samples for Grey {
+    ///     fn width(&self) -> usize {
+    ///         self.row
+    ///     }
+    ///     fn height(&self) -> usize {
+    ///         self.samples.len() / self.row
+    ///     }
+    ///     fn samples_mut(&mut self) -> &mut [u16] {
+    ///         &mut self.samples
+    ///     }
+    /// }
+    ///
+    /// let mut grey = Grey { row: 4, samples: vec![100; 16] };
+    /// let mut tokens = [0; 16];
+    /// tokens[0] = 5;
+    /// try_reconstruct_block(&mut grey, 2, 0, 0, &tokens, 4, 4, 0, true, 8)?;
+    /// assert_eq!(grey.samples[..4], [100, 100, 102, 101]);
+    /// # Ok::<(), bracetwill::Refusal>(())
+    /// ```
     pub trait Samples {
+        /// Samples of a row.
         fn width(&self) -> usize;
+        /// How many rows there are.
         fn height(&self) -> usize;
         /// The samples row by row, width × height of them.
         fn samples_mut(&mut self) -> &mut [u16];
     }
 
     /// A block's tokens, dequantized and transformed, added to the plane's samples at column `x` and row `y` and on, cut to the plane and
-    /// clipped to the depth. Refused with 1 to 9.
+    /// clipped to the depth. `tx_sz` is 0 to 3 for 4, 8, 16 and 32; `dc_quant` is for token 0, `ac_quant` for all others. Refused with 1 to 9,
+    /// of which a stream can cause 8 and 9 alone, once sizes and lists are the decoder's own; every other is a mistake of the caller.
+    ///
+    /// ```
+    /// use bracetwill::Refusal;
+    /// use bracetwill::intra::Plane;
+    /// use bracetwill::reconstruct::try_reconstruct_block;
+    ///
+    /// let mut plane = Plane::new(8, 8);
+    /// let mut tokens = [0; 64];
+    /// tokens[0] = 40;
+    /// match try_reconstruct_block(&mut plane, 0, 0, 1, &tokens, 64, 80, 0, false, 10) {
+    ///     Ok(()) => assert_eq!(plane.get(7, 7), 40),
+    ///     Err(Refusal::Token | Refusal::Coefficient) => println!("a damaged stream: conceal the block"),
+    ///     Err(mistake) => panic!("{mistake}"),
+    /// }
+    /// ```
     #[allow(clippy::too_many_arguments)]
     pub fn try_reconstruct_block<P: Samples + ?Sized>(
         plane_buf: &mut P,
@@ -250,6 +340,17 @@ pub mod reconstruct {
     }
 
     /// [`try_reconstruct_block`]; a refusal panics.
+    ///
+    /// ```
+    /// use bracetwill::{intra::Plane, reconstruct::reconstruct_block};
+    ///
+    /// // a block at the lower right corner is cut to the plane
+    /// let mut plane = Plane::new(5, 5);
+    /// let mut tokens = [0; 16];
+    /// tokens[0] = 5;
+    /// reconstruct_block(&mut plane, 4, 4, 0, &tokens, 4, 4, 0, true, 8);
+    /// assert_eq!(plane.samples()[23..], [0, 2]);
+    /// ```
     #[track_caller]
     #[allow(clippy::too_many_arguments)]
     pub fn reconstruct_block<P: Samples + ?Sized>(
@@ -269,52 +370,105 @@ pub mod reconstruct {
     }
 }
 
+/// The forward WHT and the quantizer (of the Rust's `fwd_transform.rs`).
 pub mod fwd_transform {
     use super::{Refusal, answer, archive, taken};
 
     /// The forward WHT of 16 numbers, in place. Refused with 6 or 9.
+    ///
+    /// ```
+    /// use bracetwill::{fwd_transform::try_forward_wht_2d, idct::try_inverse_transform_2d};
+    ///
+    /// // at quantizer 4, which lossless blocks have, the inverse gives the differences back
+    /// let differences: Vec<i64> = (0..16).map(|k| 10 * k - 75).collect();
+    /// let mut block = differences.clone();
+    /// try_forward_wht_2d(&mut block)?;
+    /// block.iter_mut().for_each(|token| *token *= 4);
+    /// try_inverse_transform_2d(&mut block, 2, 0, true)?;
+    /// assert_eq!(block, differences);
+    /// # Ok::<(), bracetwill::Refusal>(())
+    /// ```
     pub fn try_forward_wht_2d(block: &mut [i64]) -> Result<(), Refusal> {
         // SAFETY: a slice is as many numbers as its length says, set and aligned, and a `&mut` one is shared with nobody.
         answer(unsafe { archive::bracetwill_forward_wht_2d(block.as_mut_ptr(), block.len()) })
     }
 
-    /// Coefficients become tokens, in place; at most 1,024. Refused with 1, 2, 5, 6 or 9.
+    /// Coefficients become tokens, in place; at most 1,024. `dc_quant` is for the first, `ac_quant` for all others; an exact half goes toward
+    /// zero. Refused with 1, 2, 5, 6 or 9.
+    ///
+    /// ```
+    /// use bracetwill::{Refusal, fwd_transform::try_quantize_block_tx};
+    ///
+    /// let mut coefs = [100, -10, 11, 0];
+    /// assert_eq!(try_quantize_block_tx(&mut coefs, 8, 4, 0, 8), Ok(()));
+    /// assert_eq!(coefs, [12, -2, 3, 0]);
+    /// assert_eq!(try_quantize_block_tx(&mut coefs, 0, 4, 0, 8), Err(Refusal::Quantizer));
+    /// ```
     pub fn try_quantize_block_tx(coefs: &mut [i64], dc_quant: i32, ac_quant: i32, tx_sz: u32, bit_depth: u32) -> Result<(), Refusal> {
         // SAFETY: as above.
         answer(unsafe { archive::bracetwill_quantize_block_tx(coefs.as_mut_ptr(), coefs.len(), dc_quant, ac_quant, tx_sz, bit_depth) })
     }
 
     /// The same at a small size and depth 8. Refused with 5, 6 or 9.
+    ///
+    /// ```
+    /// let mut coefs = [7, 6, 5];
+    /// assert_eq!(bracetwill::fwd_transform::try_quantize_block(&mut coefs, 4, 4), Ok(()));
+    /// assert_eq!(coefs, [2, 1, 1]);
+    /// ```
     pub fn try_quantize_block(coefs: &mut [i64], dc_quant: i32, ac_quant: i32) -> Result<(), Refusal> {
         // SAFETY: as above.
         answer(unsafe { archive::bracetwill_quantize_block(coefs.as_mut_ptr(), coefs.len(), dc_quant, ac_quant) })
     }
 
     /// [`try_forward_wht_2d`]; a refusal panics.
+    ///
+    /// ```
+    /// let mut block = [0; 16];
+    /// bracetwill::fwd_transform::forward_wht_2d(&mut block);
+    /// assert_eq!(block, [0; 16]);
+    /// ```
     #[track_caller]
     pub fn forward_wht_2d(block: &mut [i64]) {
         taken("forward_wht_2d", try_forward_wht_2d(block));
     }
 
     /// [`try_quantize_block_tx`]; a refusal panics.
+    ///
+    /// ```
+    /// // at 32 by 32 the magnitude is doubled before the division
+    /// let mut coefs = [100, 7];
+    /// bracetwill::fwd_transform::quantize_block_tx(&mut coefs, 8, 4, 3, 10);
+    /// assert_eq!(coefs, [25, 3]);
+    /// ```
     #[track_caller]
     pub fn quantize_block_tx(coefs: &mut [i64], dc_quant: i32, ac_quant: i32, tx_sz: u32, bit_depth: u32) {
         taken("quantize_block_tx", try_quantize_block_tx(coefs, dc_quant, ac_quant, tx_sz, bit_depth));
     }
 
     /// [`try_quantize_block`]; a refusal panics.
+    ///
+    /// ```should_panic
+    /// bracetwill::fwd_transform::quantize_block(&mut [1], 0, 1);
+    /// ```
     #[track_caller]
     pub fn quantize_block(coefs: &mut [i64], dc_quant: i32, ac_quant: i32) {
         taken("quantize_block", try_quantize_block(coefs, dc_quant, ac_quant));
     }
 
     /// The greatest magnitude of a token; 0 for a depth that is not 8, 10 or 12.
+    ///
+    /// ```
+    /// use bracetwill::fwd_transform::max_codeable_coef;
+    /// assert_eq!([8, 10, 12, 9].map(max_codeable_coef), [16_450, 65_602, 262_210, 0]);
+    /// ```
     pub fn max_codeable_coef(bit_depth: u32) -> i64 {
         // SAFETY: the call takes a number and no memory.
         unsafe { archive::bracetwill_max_codeable_coef(bit_depth) }
     }
 }
 
+/// Runs over VBK files.
 pub mod vbk {
     use super::{Refusal, answer, archive};
 
@@ -326,17 +480,33 @@ pub mod vbk {
     /// What a run over a VBK file leaves.
     #[derive(Debug, Clone, PartialEq, Eq)]
     pub struct Run {
+        /// Bits of a sample: 8, 10 or 12.
         pub bit_depth: u32,
+        /// Samples of a row of the plane.
         pub width: usize,
+        /// How many rows the plane has.
         pub height: usize,
         /// The plane afterwards, row by row.
         pub samples: Vec<u16>,
         /// Each record's answer, in order.
         pub answers: Vec<Result<(), Refusal>>,
+        /// The touched count, the number behind `T` in the text.
         pub touched: u64,
     }
 
     /// A run over the bytes of a VBK file. Refused with 1, 10, 11, 12 or 13, by its header.
+    ///
+    /// ```
+    /// let mut file = b"VBK\x01\x00\x08\x04\x00\x04\x00".to_vec(); // version 1, depth 8, 4 by 4
+    /// file.extend([100, 0].repeat(16));
+    /// file.extend([0, 0, 0, 0, 0, 0, 1, 4, 0, 4, 0]); // at (0, 0), size 0, type 0, lossless, quantizers 4 and 4
+    /// file.extend([5, 0, 0, 0]);
+    /// file.extend([0; 60]);
+    /// let run = bracetwill::vbk::replay(&file)?;
+    /// assert_eq!(run.answers, [Ok(())]);
+    /// assert_eq!(run.samples[..4], [102, 101, 101, 101]);
+    /// # Ok::<(), bracetwill::Refusal>(())
+    /// ```
     pub fn replay(file: &[u8]) -> Result<Run, Refusal> {
         let (mut samples, mut answers, mut figures) = (vec![0u16; SAMPLES_ROOM], [0u8; ANSWERS_ROOM], [0u64; 5]);
         // SAFETY: four slices or arrays, each with its own length; the three that are written are apart.
@@ -360,6 +530,12 @@ pub mod vbk {
     }
 
     /// The text that the program `blockrun` prints for a file: `E number` where its header is refused.
+    ///
+    /// ```
+    /// let file = b"VBK\x01\x00\x08\x01\x00\x01\x00\x07\x00"; // one sample, no record
+    /// assert_eq!(bracetwill::vbk::blockrun(file), "VBK 1 8 1 1\nS 7\nT 0\n");
+    /// assert_eq!(bracetwill::vbk::blockrun(b"hello"), "E 12\n");
+    /// ```
     pub fn blockrun(file: &[u8]) -> String {
         let (mut samples, mut answers, mut text) = (vec![0u16; SAMPLES_ROOM], [0u8; ANSWERS_ROOM], vec![0u8; TEXT_ROOM]);
         // SAFETY: four slices or arrays, each with its own length; the three that are written are apart.
@@ -386,17 +562,26 @@ mod tests {
 
     const HEADER: &str = include_str!("../../../include/bracetwill.h");
 
-    /// The header has each number under the same name and with the same meaning, and no number more.
+    /// The refusals are those of answers.txt, in number, name and meaning, and there is no other.
     #[test]
-    fn the_header_agrees() {
-        let upper = |name: String| name.chars().fold(String::new(), |s, c| if c.is_uppercase() && !s.is_empty() { s + "_" + &c.to_string() } else { s + &c.to_uppercase().to_string() });
-        for (k, (refusal, meaning)) in REFUSALS.iter().enumerate() {
-            assert_eq!(refusal.number(), k as u32 + 1);
-            let name = format!("BRACETWILL_{}", upper(format!("{refusal:?}")));
-            assert!(HEADER.contains(&format!("  {name} = {}", k + 1)), "{name}");
-            assert!(HEADER.contains(&format!("  case {name}: return \"{meaning}\";")), "{name}");
+    fn the_answers_agree() {
+        let lines: Vec<&str> = include_str!("../../../answers.txt").lines().filter(|line| !line.starts_with('#')).collect();
+        let said: Vec<Vec<&str>> = lines.iter().map(|line| line.splitn(2, ' ').flat_map(|part| part.trim().splitn(2, ' ')).map(str::trim).collect()).collect();
+        let ours = REFUSALS.map(|(r, _)| vec![r.number().to_string(), format!("{r:?}"), r.meaning().to_string()]);
+        assert_eq!(said[0], ["0", "Done", "done"]);
+        assert_eq!(said[1..], ours);
+        assert!(ours.iter().zip(REFUSALS).all(|(o, (r, _))| r.to_string() == format!("answer {}: {}", o[0], o[2])));
+        assert!(REFUSALS.iter().all(|(r, _)| answer(r.number()) == Err(*r)));
+    }
+
+    /// One version: the file VERSION, the header and the crate.
+    #[test]
+    fn the_versions_agree() {
+        assert_eq!(VERSION, include_str!("../../../VERSION").trim());
+        assert!(HEADER.contains(&format!("#define BRACETWILL_VERSION_STRING \"{VERSION}\"\n")));
+        for (name, number) in ["MAJOR", "MINOR", "PATCH"].iter().zip(VERSION.split('.')) {
+            assert!(HEADER.contains(&format!("#define BRACETWILL_VERSION_{name} {number}\n")));
         }
-        assert_eq!(HEADER.matches("  case BRACETWILL_").count(), 1 + REFUSALS.len());
     }
 
     /// The rooms are the header's.
@@ -434,7 +619,7 @@ mod tests {
     }
 
     #[test]
-    #[should_panic(expected = "quantize_block was refused, answer 5: a quantizer is outside 1 to 32767")]
+    #[should_panic(expected = "quantize_block was refused, answer 5: a quantizer outside 1 to 32,767")]
     fn the_call_of_the_rusts_name_panics() {
         fwd_transform::quantize_block(&mut [1], 0, 1);
     }

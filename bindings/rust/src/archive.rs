@@ -1,0 +1,53 @@
+//! Made by bindings/write from include/bracetwill.h: the archive's functions. A slice crosses as its pointer and its length.
+#[rustfmt::skip]
+unsafe extern "C" {
+    pub fn bracetwill_inverse_transform_2d(block: *mut i64, block_len: usize, n: u32, tx_type: u8, lossless: bool) -> u32;
+    pub fn bracetwill_inverse_transform_2d_reference(block: *mut i64, block_len: usize, n: u32, tx_type: u8, lossless: bool) -> u32;
+    pub fn bracetwill_reconstruct_block(
+        samples: *mut u16,
+        samples_len: usize,
+        width: usize,
+        height: usize,
+        x: usize,
+        y: usize,
+        tx_sz: u32,
+        tokens: *const i64,
+        tokens_len: usize,
+        dc_quant: i32,
+        ac_quant: i32,
+        tx_type: u8,
+        lossless: bool,
+        bit_depth: u32,
+    ) -> u32;
+    pub fn bracetwill_forward_wht_2d(block: *mut i64, block_len: usize) -> u32;
+    pub fn bracetwill_quantize_block_tx(
+        coefs: *mut i64,
+        coefs_len: usize,
+        dc_quant: i32,
+        ac_quant: i32,
+        tx_sz: u32,
+        bit_depth: u32,
+    ) -> u32;
+    pub fn bracetwill_quantize_block(coefs: *mut i64, coefs_len: usize, dc_quant: i32, ac_quant: i32) -> u32;
+    pub fn bracetwill_max_codeable_coef(bit_depth: u32) -> i64;
+    pub fn bracetwill_replay(
+        file: *const u8,
+        file_len: usize,
+        samples: *mut u16,
+        samples_len: usize,
+        answers: *mut u8,
+        answers_len: usize,
+        figures: *mut u64,
+        figures_len: usize,
+    ) -> u32;
+    pub fn bracetwill_blockrun(
+        file: *const u8,
+        file_len: usize,
+        samples: *mut u16,
+        samples_len: usize,
+        answers: *mut u8,
+        answers_len: usize,
+        out: *mut u8,
+        out_len: usize,
+    ) -> usize;
+}

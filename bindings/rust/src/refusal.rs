@@ -1,0 +1,54 @@
+//! Made by bindings/write from answers.txt.
+
+/// Why a call was refused: an answer above 0. A later version may have more of them.
+#[derive(Clone, Copy, Debug, PartialEq, Eq, Hash)]
+#[non_exhaustive]
+#[repr(u32)]
+pub enum Refusal {
+    /// Answer 1: bit depth is not 8, 10 or 12.
+    Depth = 1,
+    /// Answer 2: size number above 3 (for the 2D drivers: n outside 2 to 5).
+    Size = 2,
+    /// Answer 3: lossless with a size other than 4 by 4.
+    LosslessSize = 3,
+    /// Answer 4: not lossless, and a tx_type above 3, or 32 by 32 with a tx_type other than 0.
+    TxType = 4,
+    /// Answer 5: a quantizer outside 1 to 32,767.
+    Quantizer = 5,
+    /// Answer 6: a list has the wrong length.
+    Length = 6,
+    /// Answer 7: plane width or height above 65,535, or samples not exactly width times height.
+    Plane = 7,
+    /// Answer 8: a token's magnitude above the depth's codeable limit (16,450, 65,602 and 262,210).
+    Token = 8,
+    /// Answer 9: a coefficient beyond its limit (2^27; for the forward WHT 2^23).
+    Coefficient = 9,
+    /// Answer 10: VBK: the mark is not there.
+    Mark = 10,
+    /// Answer 11: VBK: version is not 1.
+    Version = 11,
+    /// Answer 12: VBK: header, samples or a record cut short.
+    CutShort = 12,
+    /// Answer 13: VBK: file above 65,535 bytes, or width times height not 1 to 4,096.
+    TooLarge = 13,
+    /// Answer 14: VBK: a record's lossless byte above 1.
+    LosslessByte = 14,
+}
+
+/// Every refusal with its meaning, in the order of the numbers.
+pub(crate) const REFUSALS: [(Refusal, &str); 14] = [
+    (Refusal::Depth, "bit depth is not 8, 10 or 12"),
+    (Refusal::Size, "size number above 3 (for the 2D drivers: n outside 2 to 5)"),
+    (Refusal::LosslessSize, "lossless with a size other than 4 by 4"),
+    (Refusal::TxType, "not lossless, and a tx_type above 3, or 32 by 32 with a tx_type other than 0"),
+    (Refusal::Quantizer, "a quantizer outside 1 to 32,767"),
+    (Refusal::Length, "a list has the wrong length"),
+    (Refusal::Plane, "plane width or height above 65,535, or samples not exactly width times height"),
+    (Refusal::Token, "a token's magnitude above the depth's codeable limit (16,450, 65,602 and 262,210)"),
+    (Refusal::Coefficient, "a coefficient beyond its limit (2^27; for the forward WHT 2^23)"),
+    (Refusal::Mark, "VBK: the mark is not there"),
+    (Refusal::Version, "VBK: version is not 1"),
+    (Refusal::CutShort, "VBK: header, samples or a record cut short"),
+    (Refusal::TooLarge, "VBK: file above 65,535 bytes, or width times height not 1 to 4,096"),
+    (Refusal::LosslessByte, "VBK: a record's lossless byte above 1"),
+];
