@@ -4,6 +4,8 @@
 //!   blocks time ROUNDS FILE  ns a block of ours, the Rust's and, where it is linked in, libvpx's: least of ROUNDS rounds that take turns
 //! The programs are made and called by ./compare --blocks and bench/real.
 #![allow(dead_code)]
+#[path = "../bindings/rust/src/archive.rs"]
+mod archive;
 #[path = "../oracle/rust/idct.rs"]
 mod idct;
 #[path = "../oracle/rust/intra.rs"]
@@ -20,34 +22,13 @@ mod vpx {
     pub fn add16(_: bool, _: &crate::Block, _: &[i32], _: &mut [u16], _: usize) {}
 }
 
+use archive as c;
 use range::transformed;
 use std::collections::BTreeMap;
 use std::fs::File;
 use std::hint::black_box;
 use std::io::{BufReader, Read};
 use std::time::Instant;
-
-mod c {
-    unsafe extern "C" {
-        pub fn bracetwill_inverse_transform_2d(block: *mut i64, len: usize, n: u32, tx_type: u8, lossless: bool) -> u32;
-        pub fn bracetwill_reconstruct_block(
-            samples: *mut u16,
-            count: usize,
-            width: usize,
-            height: usize,
-            x: usize,
-            y: usize,
-            tx_sz: u32,
-            tokens: *const i64,
-            len: usize,
-            dc_quant: i32,
-            ac_quant: i32,
-            tx_type: u8,
-            lossless: bool,
-            bit_depth: u32,
-        ) -> u32;
-    }
-}
 
 // ---- records
 

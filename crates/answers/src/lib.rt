@@ -4,6 +4,7 @@ ghost use lib.IntN.{natAbs};
 ghost use lib.ListN.{length};
 ghost use Rattle.answers.specs.Answers.{number};
 ghost use Rattle.answers.specs.Bad.{badDepth, badSize, badLossless, badTxType, anyBeyond};
+ghost use Rattle.answers.specs.Sizes.{side, area};
 
 // The answers of all calls and of the VBK reader, in the order of their numbers, 0 to 14.
 pub enum Answer {
@@ -77,6 +78,32 @@ pub fn magnitude(t: i64) -> u64
         return u as u64 + 1;
     }
     t as u64
+}
+
+// n0, the numbers of a row; n is the size number plus 2.
+pub fn side(n: u32) -> usize
+    requires { ⌜ (2 ≤ n) × (n ≤ 5) ⌝ }
+    ensures { λ r. ⌜ (r ≡ side n) × (r ≤ 32) ⌝ }
+{
+    match n {
+        2 => 4,
+        3 => 8,
+        4 => 16,
+        _ => 32,
+    }
+}
+
+// n0², the numbers of a block.
+pub fn area(n: u32) -> usize
+    requires { ⌜ (2 ≤ n) × (n ≤ 5) ⌝ }
+    ensures { λ r. ⌜ (r ≡ area n) × (r ≤ 1024) ⌝ }
+{
+    match n {
+        2 => 16,
+        3 => 64,
+        4 => 256,
+        _ => 1024,
+    }
 }
 
 // The depth is not 8, 10 or 12.

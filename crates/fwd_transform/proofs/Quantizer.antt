@@ -13,9 +13,9 @@ use Rattle.whole.proofs.Lists.{fill-rest, fill-all, fill-done}
 use Rattle.answers.specs.Bad.{badDepth, badSize, badQuantizer, anyBeyond}
 use Rattle.answers.specs.Limits.{COEF_LIMIT, LIST_LIMIT}
 use Rattle.answers.specs.declared.Answer.{Answer}
-use Rattle.answers.proofs.Numbers.{number-injective, pass, rest}
+use Rattle.answers.proofs.Numbers.{pass, rest}
 use Rattle.answers.proofs.Passed.{none-beyond}
-use Rattle.fwd_transform.specs.Quantize.{Input, answerOf, tokenAt, tokensOf, Quantized}
+use Rattle.fwd_transform.specs.Quantize.{Input, answerOf, tokenAt, tokensOf}
 
 neither : (a b : Bool) → a || b ≡ false → (a ≡ false) × (b ≡ false)
 neither true b h = (h, cc)
@@ -63,7 +63,3 @@ module _ (i : Input) where
   pub filled : (k : ℕ) (l : List ℤ) → k ≤ length (i .coefs) → length (i .coefs) ≤ k → l ≡ fill k (tokenAt i) (i .coefs) → l ≡ tokensOf i
   unfolding tokensOf
   filled k l p q e = fill-done (tokenAt i) (i .coefs) k (length (i .coefs)) p q e ∙ fill-all (pos 0) (tokenAt i) (i .coefs)
-
--- two results that meet the promise coincide
-pub coincide : (i : Input) (a b : Answer) (l m : List ℤ) → Quantized i a l → Quantized i b m → (a ≡ b) × (l ≡ m)
-coincide i a b l m p q = (number-injective a b (p .answered ∙ sym (q .answered)), p .written ∙ sym (q .written))

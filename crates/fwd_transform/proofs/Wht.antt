@@ -20,7 +20,7 @@ use Rattle.whole.proofs.Parts.{eq-parts, mul-P, mul-N, quot-P, quot-N}
 use Rattle.answers.specs.Bad.{badDepth, anyBeyond}
 use Rattle.answers.specs.Limits.{WHT_LIMIT, codeable}
 use Rattle.answers.specs.declared.Answer.{Answer}
-use Rattle.answers.proofs.Numbers.{number-injective, pass, rest}
+use Rattle.answers.proofs.Numbers.{pass, rest}
 use Rattle.answers.proofs.Passed.{by-depth, none-within}
 use Rattle.quant.specs.Places.{quantizerAt, dequantAll}
 use Rattle.quant.specs.Token.{dequant}
@@ -35,7 +35,7 @@ use Rattle.blocks.proofs.Places.{le-or-lt}
 use Rattle.wht.specs.Wht.{wht}
 use Rattle.wht.proofs.Wht.{wht-stays, wht-again, wht-fours}
 use Rattle.wht.proofs.Ranges.{wht-grows}
-use Rattle.fwd_transform.specs.ForwardWht.{forwardWht, whtAnswer, Forwarded}
+use Rattle.fwd_transform.specs.ForwardWht.{forwardWht, whtAnswer}
 
 -- a place of the block is in one row and one column
 place : (Q : ℕ → Type 0) → ((i j : ℕ) → i < 4 → j < 4 → Q (i * 4 + j)) → (k : ℕ) → k < 16 → Q k
@@ -211,7 +211,3 @@ module _ (block : List ℤ) where
       let n = length block in
       let l = sixteen h in
       record { each = λ k q. none-within WHT_LIMIT n block (pass (anyBeyond WHT_LIMIT n block) 8 _ (rest (not (eqb n 16)) 5 _ h)) k (omega arith) }
-
--- two results that meet the promise coincide
-pub coincide : (block : List ℤ) (a b : Answer) (l m : List ℤ) → Forwarded block a l → Forwarded block b m → (a ≡ b) × (l ≡ m)
-coincide block a b l m p q = (number-injective a b (p .answered ∙ sym (q .answered)), p .written ∙ sym (q .written))

@@ -19,11 +19,11 @@ use Rattle.answers.specs.Bad.{badLossless, badTxType, anyBeyond}
 use Rattle.answers.specs.Limits.{COEF_LIMIT}
 use Rattle.answers.proofs.Passed.{none-within}
 use Rattle.dct.proofs.Dct.{two-to-five}
-use Rattle.blocks.specs.Inner.{live, FirstWithin, dcValue, Possible}
+use Rattle.blocks.specs.Inner.{onlyDc, live, FirstWithin, dcValue, Possible}
 use Rattle.blocks.specs.Inverse.{inverse2d}
 use Rattle.blocks.proofs.Inverse.{dc-only, filled}
 use Rattle.answers.specs.Sizes.{side, area}
-use Rattle.idct.specs.Driver.{Input, badSide, badRoom, answerOf, blockAfter, Driven, onlyDc}
+use Rattle.idct.specs.Driver.{Input, badSide, badRoom, answerOf, blockAfter, Driven}
 use Rattle.idct.specs.Inner.{shapeOf, Tried}
 use Rattle.idct.proofs.Beyond.{first-beyond}
 
@@ -84,6 +84,10 @@ possible count n tx-type lossless h =
     )
 
 -- the type is not looked at when lossless
+pub any-type : (n tx-type : ℕ) (s : List ℤ) → inverse2d n 0 true s ≡ inverse2d n tx-type true s
+unfolding inverse2d
+any-type n tx-type s = refl
+
 pub any-tried : (n tx-type : ℕ) (s : List ℤ) {made : Bool} {after : List ℤ} → Tried (record { block = s; n = n; tx-type = 0; lossless = true }) made after
     → Tried (record { block = s; n = n; tx-type = tx-type; lossless = true }) made after
 unfolding inverse2d

@@ -1,6 +1,6 @@
 -- The promise of the two-dimensional drivers: their answer, and the block afterwards.
 use mathlib.Core.Path.{_≡_}
-use mathlib.Core.Bool.{Bool, cond, not, _&&_, _||_}
+use mathlib.Core.Bool.{Bool, cond, _||_}
 use mathlib.Core.List.{List, [], _∷_}
 use Prim.Native.Nat.{ℕ, _-_}
 use lib.Dec.{ltb, eqb}
@@ -11,7 +11,6 @@ use Rattle.answers.specs.Answers.{number, lowest}
 use Rattle.answers.specs.Limits.{COEF_LIMIT}
 use Rattle.answers.specs.Sizes.{area}
 use Rattle.answers.specs.Bad.{badLossless, badTxType, anyBeyond}
-use Rattle.blocks.specs.Inner.{live}
 use Rattle.blocks.specs.Inverse.{inverse2d}
 
 -- what a driver is given
@@ -50,7 +49,3 @@ blockAfter u = cond (eqb (answerOf u) 0) (inverse2d (u .n) (u .tx-type) (u .loss
 pub record Driven (u : Input) (answer : Answer) (after : List ℤ) : Type 0 where
   pub answered : number answer ≡ answerOf u
   pub written : after ≡ blockAfter u
-
--- the type is 0, and of `count` numbers only the first is live
-unfoldable pub onlyDc : ℕ → ℕ → List ℤ → Bool
-onlyDc count tx-type block = eqb tx-type 0 && not (live 1 (count - 1) block)

@@ -11,9 +11,8 @@ ghost use Rattle.answers.specs.Bad.{anyBeyond};
 ghost use Rattle.answers.specs.Limits.{COEF_LIMIT};
 ghost use Rattle.answers.specs.Sizes.{area};
 ghost use Rattle.blocks.specs.Block.{rows, columns};
-ghost use Rattle.blocks.specs.Inner.{live, FirstWithin, dcValue, Possible, Safe};
+ghost use Rattle.blocks.specs.Inner.{live, onlyDc, FirstWithin, dcValue, Possible, Safe};
 ghost use Rattle.blocks.specs.Inverse.{Dct, Wht, apply, lossy, inverse2d};
-ghost use Rattle.idct.specs.Driver.{onlyDc};
 ghost use Rattle.idct.specs.Inner.{Tried};
 
 // Sizes apart: their numbers are literals, so that the loops unroll.
@@ -291,7 +290,7 @@ fn fill_first(block: &mut [i64], count: usize, v: i64)
 }
 
 // The residual where only place 0 is live, of type 0.
-fn dc_fill(block: &mut [i64], n: u32, count: usize)
+pub fn dc_fill(block: &mut [i64], n: u32, count: usize)
     requires { ⌜ (2 ≤ n) × (n ≤ 5) × (1 ≤ count) × (count ≤ length (now block)) × Within (2 ^ 31) (getD (now block) 0 (pos 0)) ⌝ }
     ensures { λ _. ⌜ now (block .exit) ≡ fill count (λ k. dcValue n (getD (now (block .entry)) 0 (pos 0))) (now (block .entry)) ⌝ }
 {

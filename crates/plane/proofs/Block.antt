@@ -12,7 +12,8 @@ use lib.ListN.{length, getD}
 use Rattle.whole.proofs.Lists.{length-tabulate, getD-tabulate, tabulate-is, tabulate-same}
 use Rattle.plane.specs.declared.Plane.{Plane}
 use Rattle.plane.specs.Place.{placeOf, rowOf, columnOf, areaOf, cut, SamplesOf}
-use Rattle.plane.specs.Plane.{clip, inside, rowAfter, sampleAfter, planeAfter}
+use Rattle.plane.specs.Plane.{clip, inside, sampleAfter, planeAfter}
+use Rattle.plane.specs.Inner.{rowAfter}
 use Rattle.plane.proofs.Row.{inside-yes, inside-low, inside-high, inside-is, row-in, row-out}
 
 and-false : (b : Bool) → b && false ≡ false

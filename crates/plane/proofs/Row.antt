@@ -10,7 +10,8 @@ use lib.Dec.{leb, ltb}
 use lib.IntN.{ℤ, pos, _+ℤ_}
 use lib.ListN.{length, getD, set}
 use lib.Seq.{getD-set-same, getD-set-other}
-use Rattle.plane.specs.Plane.{clip, inside, rowAfter}
+use Rattle.plane.specs.Plane.{clip, inside}
+use Rattle.plane.specs.Inner.{rowAfter}
 
 and-false : (b : Bool) → b && false ≡ false
 and-false true = refl

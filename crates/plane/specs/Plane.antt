@@ -18,11 +18,6 @@ clip top z = min top (P z)
 unfoldable pub inside : ℕ → ℕ → ℕ → Bool
 inside start n v = leb start v && ltb v (start + n)
 
--- the sample at k after n samples from `at` on got the residuals r 0, r 1, ..
-unfoldable pub rowAfter : ℕ → (ℕ → ℤ) → ℕ → ℕ → List ℕ → ℕ → ℕ
-rowAfter top r at n samples k =
-    cond (inside at n k) (clip top (pos (getD samples k 0) +ℤ r (k - at))) (getD samples k 0)
-
 -- the sample at k, of a row and column, after `rows` rows of `cols` samples at (x, y) got the residuals r i j
 unfoldable pub sampleAfter : ℕ → (ℕ → ℕ → ℤ) → ℕ → ℕ → ℕ → ℕ → List ℕ → ℕ → ℕ → ℕ → ℕ
 sampleAfter top r x y rows cols samples row column k =

@@ -7,7 +7,8 @@ ghost use Rattle.whole.specs.Within.{Within};
 ghost use Rattle.whole.specs.Inner.{AllWithin};
 ghost use Rattle.answers.specs.Limits.{SIDE_LIMIT};
 ghost use Rattle.plane.specs.Place.{placeOf, SamplesOf, cut};
-ghost use Rattle.plane.specs.Plane.{clip, rowAfter, planeAfter};
+ghost use Rattle.plane.specs.Plane.{clip, planeAfter};
+ghost use Rattle.plane.specs.Inner.{rowAfter};
 
 // A plane's width and height. Its samples are lent beside it.
 pub struct Plane {

@@ -1,9 +1,10 @@
 -- The VBK file's answers: each number is given when, and only when, its step is the first whose condition holds.
-use mathlib.Core.Path.{_≡_, refl, sym, subst}
-use mathlib.Core.Bool.{Bool, true, false, not, cond, _&&_}
+use mathlib.Core.Path.{_≡_, refl, sym, ap, subst, _∙_}
+use mathlib.Core.Bool.{Bool, true, false, not, cond, _&&_, _||_}
 use mathlib.Core.List.{List, [], _∷_}
-use Prim.Native.Nat.{ℕ, suc, _+_, _<_}
-use borrow.Author.Tests.{ltb-true, eqb-true, lt-ltb, eq-eqb, leb-false, lt-leb}
+use Prim.Native.Nat.{ℕ, suc, _+_, _≤_, _<_}
+use native.Mathlib.Omega.{arith}
+use borrow.Author.Tests.{ltb-true, ltb-false, eqb-true, lt-ltb, le-ltb, eq-eqb, leb-false, lt-leb}
 use lib.Dec.{leb, ltb, eqb}
 use lib.ListN.{length}
 use Rattle.answers.specs.Answers.{number, lowest}
@@ -12,7 +13,7 @@ use Rattle.answers.specs.Bad.{badDepth, badSize}
 use Rattle.answers.proofs.Numbers.{Applies, there}
 use Rattle.vbk_read.specs.Bytes.{le1}
 use Rattle.vbk_read.specs.Header.{HEADER_BYTES, versionOf, depthOf, planeArea, firstRecord, marked, badArea, headerAnswer, Headed}
-use Rattle.vbk_read.specs.Records.{HEAD_BYTES, sizeAt, losslessAt, nextAt, endAnswer, checkAnswer, Recorded}
+use Rattle.vbk_read.specs.Records.{HEAD_BYTES, sizeAt, losslessAt, nextAt, found, endAnswer, ends, checkAnswer, Recorded}
 use Rattle.vbk_read.specs.declared.Header.{Header}
 use Rattle.vbk_read.specs.declared.Record.{Record}
 use Rattle.vbk.specs.Replay.{RECORD_LIMIT}
@@ -92,46 +93,83 @@ header-when s h p = subst (λ (n : ℕ). InOrder (W.Header s) W.headerNumbers n)
 -- ---- a record
 abbrev recordSteps : List ℕ → ℕ → List (ℕ × Bool)
 recordSteps s at =
-    (1, ltb (length s) (at + HEAD_BYTES))
-    ∷ (2, badSize (sizeAt s at))
-    ∷ (3, ltb (length s) (nextAt s at))
-    ∷ (4, ltb 1 (losslessAt s at))
+    (1, not (found s at))
+    ∷ (2, ltb (length s) (at + HEAD_BYTES))
+    ∷ (3, badSize (sizeAt s at))
+    ∷ (4, ltb (length s) (nextAt s at))
+    ∷ (5, ltb 1 (losslessAt s at))
     ∷ []
+
+nothing-left : (s : List ℕ) (at : ℕ) → not (found s at) ≡ true → length s ≤ at
+nothing-left s at e = ltb-false at (length s) (T.not-true (found s at) e)
 
 record-each : (s : List ℕ) (at : ℕ) → Each (W.Record s at) (recordSteps s at)
 record-each s at =
-    more (λ e. W.head (ltb-true (length s) (at + HEAD_BYTES) e))
-    (more (λ e. W.size (ltb-true 3 (sizeAt s at) e))
-    (more (λ e. W.tokens (ltb-true (length s) (nextAt s at) e)) (more (λ e. W.lossless (ltb-true 1 (losslessAt s at) e)) none)))
+    more (λ e. W.Record.none (nothing-left s at e))
+    (more (λ e. W.Record.head (ltb-true (length s) (at + HEAD_BYTES) e))
+    (more (λ e. W.Record.size (ltb-true 3 (sizeAt s at) e))
+    (more (λ e. W.Record.tokens (ltb-true (length s) (nextAt s at) e)) (more (λ e. W.lossless (ltb-true 1 (losslessAt s at) e)) none))))
 
 record-has : (s : List ℕ) (at n : ℕ) → W.Record s at n → Applies n (recordSteps s at)
-record-has s at n (W.head h) = here-if 1 _ _ (lt-ltb (length s) (at + HEAD_BYTES) h)
-record-has s at n (W.size h) = there (here-if 2 _ _ (lt-ltb 3 (sizeAt s at) h))
-record-has s at n (W.tokens h) = there (there (here-if 3 _ _ (lt-ltb (length s) (nextAt s at) h)))
-record-has s at n (W.lossless h) = there (there (there (here-if 4 _ _ (lt-ltb 1 (losslessAt s at) h))))
+record-has s at n (W.Record.none h) = here-if 1 _ _ (ap not (le-ltb at (length s) h))
+record-has s at n (W.Record.head h) = there (here-if 2 _ _ (lt-ltb (length s) (at + HEAD_BYTES) h))
+record-has s at n (W.Record.size h) = there (there (here-if 3 _ _ (lt-ltb 3 (sizeAt s at) h)))
+record-has s at n (W.Record.tokens h) = there (there (there (here-if 4 _ _ (lt-ltb (length s) (nextAt s at) h))))
+record-has s at n (W.lossless h) = there (there (there (there (here-if 5 _ _ (lt-ltb 1 (losslessAt s at) h)))))
 
--- the checks that end the reading, then the lossless byte: one table
-joined : (a b c d : Bool)
-    → cond (not (eqb (lowest ((12, a) ∷ (2, b) ∷ (12, c) ∷ [])) 0)) (lowest ((12, a) ∷ (2, b) ∷ (12, c) ∷ [])) (lowest ((14, d) ∷ []))
-    ≡ lowest ((12, a) ∷ (2, b) ∷ (12, c) ∷ (14, d) ∷ [])
-joined true b c d = refl
-joined false true c d = refl
-joined false false true d = refl
-joined false false false d = refl
+-- the end of the file, the checks that end the reading, then the lossless byte: one table
+joined : (f a b c d : Bool)
+    → cond f (cond (not (eqb (lowest ((12, a) ∷ (2, b) ∷ (12, c) ∷ [])) 0)) (lowest ((12, a) ∷ (2, b) ∷ (12, c) ∷ [])) (lowest ((14, d) ∷ []))) 0
+    ≡ lowest ((0, not f) ∷ (12, a) ∷ (2, b) ∷ (12, c) ∷ (14, d) ∷ [])
+joined false a b c d = refl
+joined true true b c d = refl
+joined true false true c d = refl
+joined true false false true d = refl
+joined true false false false d = refl
 
 check-is : (s : List ℕ) (at : ℕ)
-    → checkAnswer s at ≡ lowest ((12, ltb (length s) (at + HEAD_BYTES)) ∷ (2, badSize (sizeAt s at)) ∷ (12, ltb (length s) (nextAt s at)) ∷ (14, ltb 1 (losslessAt s at)) ∷ [])
+    → checkAnswer s at ≡ lowest ((0, not (found s at)) ∷ (12, ltb (length s) (at + HEAD_BYTES)) ∷ (2, badSize (sizeAt s at)) ∷ (12, ltb (length s) (nextAt s at)) ∷ (14, ltb 1 (losslessAt s at)) ∷ [])
 unfolding checkAnswer endAnswer
-check-is s at = joined (ltb (length s) (at + HEAD_BYTES)) (badSize (sizeAt s at)) (ltb (length s) (nextAt s at)) (ltb 1 (losslessAt s at))
+check-is s at = joined (found s at) (ltb (length s) (at + HEAD_BYTES)) (badSize (sizeAt s at)) (ltb (length s) (nextAt s at)) (ltb 1 (losslessAt s at))
 
 record-order : (s : List ℕ) (at : ℕ) → InOrder (W.Record s at) W.recordNumbers (checkAnswer s at)
 record-order s at =
     subst (λ (n : ℕ). InOrder (W.Record s at) W.recordNumbers n) (sym (check-is s at))
     (in-order (W.Record s at) W.recordNumbers (recordSteps s at) refl tt (record-each s at) (record-has s at))
 
--- `record_at`, `next_record` and the reader's `next`
+-- what a reader finds at its place: the answer
 pub record-when : (s : List ℕ) (at : ℕ) (r : Record) → Recorded s at r → InOrder (W.Record s at) W.recordNumbers (number (r .answer))
 record-when s at r p = subst (λ (n : ℕ). InOrder (W.Record s at) W.recordNumbers n) (sym (p .answered)) (record-order s at)
+
+-- there is a further record when, and only when, a byte is left
+pub found-when : (s : List ℕ) (at : ℕ) (r : Record) → Recorded s at r → (at < length s → r .found ≡ true) × (r .found ≡ true → at < length s)
+found-when s at r p = (λ h. p .found-is ∙ lt-ltb at (length s) h, λ e. ltb-true at (length s) (sym (p .found-is) ∙ e))
+
+-- the reading ends when, and only when, no byte is left or the record is cut short or of no size
+some-of : (a b c : Bool) → not (eqb (lowest ((12, a) ∷ (2, b) ∷ (12, c) ∷ [])) 0) ≡ a || (b || c)
+some-of true b c = refl
+some-of false true c = refl
+some-of false false true = refl
+some-of false false false = refl
+
+ends-are : (s : List ℕ) (at : ℕ) → ends s at ≡ ltb (length s) (at + HEAD_BYTES) || (badSize (sizeAt s at) || ltb (length s) (nextAt s at))
+unfolding endAnswer
+ends-are s at = some-of (ltb (length s) (at + HEAD_BYTES)) (badSize (sizeAt s at)) (ltb (length s) (nextAt s at))
+
+ends-if : (s : List ℕ) (at : ℕ) → W.Ends s at → ends s at ≡ true
+ends-if s at (W.Ends.none h) = ends-are s at ∙ T.left _ _ (lt-ltb (length s) (at + HEAD_BYTES) (omega (arith, h)))
+ends-if s at (W.Ends.head h) = ends-are s at ∙ T.left _ _ (lt-ltb (length s) (at + HEAD_BYTES) h)
+ends-if s at (W.Ends.size h) = ends-are s at ∙ T.right (ltb (length s) (at + HEAD_BYTES)) _ (T.left _ _ (lt-ltb 3 (sizeAt s at) h))
+ends-if s at (W.Ends.tokens h) = ends-are s at ∙ T.right (ltb (length s) (at + HEAD_BYTES)) _ (T.right (badSize (sizeAt s at)) _ (lt-ltb (length s) (nextAt s at) h))
+
+ends-only : (s : List ℕ) (at : ℕ) → ends s at ≡ true → W.Ends s at
+ends-only s at e =
+    T.or-true (ltb (length s) (at + HEAD_BYTES)) (badSize (sizeAt s at) || ltb (length s) (nextAt s at)) (λ q. W.Ends.head (ltb-true (length s) (at + HEAD_BYTES) q))
+    (T.or-true (badSize (sizeAt s at)) (ltb (length s) (nextAt s at)) (λ q. W.Ends.size (ltb-true 3 (sizeAt s at) q)) (λ q. W.Ends.tokens (ltb-true (length s) (nextAt s at) q)))
+    (sym (ends-are s at) ∙ e)
+
+pub ends-when : (s : List ℕ) (at : ℕ) (r : Record) → Recorded s at r → (W.Ends s at → r .ends ≡ true) × (r .ends ≡ true → W.Ends s at)
+ends-when s at r p = (λ h. p .ends-is ∙ ends-if s at h, λ e. ends-only s at (sym (p .ends-is) ∙ e))
 
 -- ---- a run
 run-room : (s samples answers : List ℕ) → not (roomy samples answers) ≡ true → W.Run s samples answers 1

@@ -3,7 +3,7 @@ use mathlib.Core.Path.{_≡_, sym, ap, _∙_}
 use mathlib.Core.List.{List}
 use Prim.Native.Nat.{ℕ}
 use lib.IntN.{ℤ, pos}
-use denote.Ref.{RefT}
+use denote.Ref.{RefT, now}
 use Rattle.answers.specs.declared.Answer.{Answer}
 use Rattle.answers.specs.Answers.{number}
 use Rattle.answers.specs.Limits.{codeable}
@@ -13,7 +13,7 @@ use Rattle.reconstruct.specs.Reconstruct as R
 use Rattle.fwd_transform.specs.Quantize as Q
 use Rattle.fwd_transform.specs.ForwardWht.{Forwarded}
 use Rattle.vbk_read.specs.Header.{Headed}
-use Rattle.vbk_read.specs.Records.{Recorded}
+use Rattle.vbk_read.specs.Records.{Recorded, Opened}
 use Rattle.vbk_read.specs.declared.Fields.{Fields}
 use Rattle.vbk_read.specs.declared.Header.{Header}
 use Rattle.vbk_read.specs.declared.Record.{Record}
@@ -57,17 +57,26 @@ header-unique s h k p q =
     let f = same (p .fields-are) (q .fields-are) in
     ap (λ (x : Answer). record { answer = x; fields = h .fields }) a ∙ ap (λ (x : Fields). record { answer = k .answer; fields = x }) f
 
--- `record_at`, `next_record` and the reader's `next`
+-- what is read at a place
 pub record-unique : (s : List ℕ) (at : ℕ) (r t : Record) → Recorded s at r → Recorded s at t → r ≡ t
 record-unique s at r t p q =
-    let a = same-answer _ (r .answer) (t .answer) (p .answered) (q .answered) in
+    let f = same (p .found-is) (q .found-is) in
     let e = same (p .ends-is) (q .ends-is) in
+    let a = same-answer _ (r .answer) (t .answer) (p .answered) (q .answered) in
     let h = same (p .head-is) (q .head-is) in
     let n = same (p .next-is) (q .next-is) in
-    ap (λ x. record { answer = x; ends = r .ends; head = r .head; next = r .next }) a
-    ∙ ap (λ x. record { answer = t .answer; ends = x; head = r .head; next = r .next }) e
-    ∙ ap (λ x. record { answer = t .answer; ends = t .ends; head = x; next = r .next }) h
-    ∙ ap (λ (x : ℕ). record { answer = t .answer; ends = t .ends; head = t .head; next = record { at = x } }) n
+    ap (λ x. record { found = x; ends = r .ends; answer = r .answer; head = r .head; next = r .next }) f
+    ∙ ap (λ x. record { found = t .found; ends = x; answer = r .answer; head = r .head; next = r .next }) e
+    ∙ ap (λ x. record { found = t .found; ends = t .ends; answer = x; head = r .head; next = r .next }) a
+    ∙ ap (λ x. record { found = t .found; ends = t .ends; answer = t .answer; head = x; next = r .next }) h
+    ∙ ap (λ (x : ℕ). record { found = t .found; ends = t .ends; answer = t .answer; head = t .head; next = record { at = x } }) n
+
+-- `open` and the reader's `next`
+pub open-unique : (file : RefT (List ℕ)) (at : ℕ) (r t : Reader) → Opened file at r → Opened file at t → r ≡ t
+open-unique file at r t p q =
+    ap (λ x. record { file = x; at = r .at; «record» = r .«record» }) (same (p .file-is) (q .file-is))
+    ∙ ap (λ x. record { file = t .file; at = x; «record» = r .«record» }) (same (p .at-is) (q .at-is))
+    ∙ ap (λ x. record { file = t .file; at = t .at; «record» = x }) (record-unique (now file) at (r .«record») (t .«record») (p .record-is) (q .record-is))
 
 -- `replay`
 pub replay-unique : (s samples answers : List ℕ) (r t : Run) (p₁ p₂ a₁ a₂ : List ℕ) → Replayed s samples answers r p₁ a₁ → Replayed s samples answers t p₂ a₂
@@ -101,8 +110,3 @@ pub run-told-unique : (s samples answers room : List ℕ) (r t : ℕ) (p₁ p₂
     → RunTold s samples answers room t p₂ a₂ f₂ → (r ≡ t) × (p₁ ≡ p₂) × (a₁ ≡ a₂) × (f₁ ≡ f₂)
 run-told-unique s samples answers room r t p₁ p₂ a₁ a₂ f₁ f₂ p q =
     (same (p .answered) (q .answered), same (p .samples-are) (q .samples-are), same (p .answers-are) (q .answers-are), same (p .figures-are) (q .figures-are))
-
--- `open`
-pub open-unique : (file : RefT (List ℕ)) (at : ℕ) (r t : Reader) → (r .file ≡ file) × (r .at ≡ at) → (t .file ≡ file) × (t .at ≡ at) → r ≡ t
-open-unique file at r t p q =
-    ap (λ (x : RefT (List ℕ)). record { file = x; at = r .at }) (same (p .0) (q .0)) ∙ ap (λ (x : ℕ). record { file = t .file; at = x }) (same (p .1) (q .1))

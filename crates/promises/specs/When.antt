@@ -68,16 +68,24 @@ pub data Header (s : List ℕ) : ℕ → Type 0 where
 abbrev pub headerNumbers : List ℕ
 headerNumbers = 0 ∷ 13 ∷ 12 ∷ 10 ∷ 11 ∷ 1 ∷ 13 ∷ 12 ∷ []
 
--- a record at a place, before its reconstruction; after the first three the reading ends
+-- a record at a place, before its reconstruction: with no byte left there is none, and nothing is answered
 pub data Record (s : List ℕ) (at : ℕ) : ℕ → Type 0 where
-  head : length s < at + HEAD_BYTES → Record s at 1
-  size : 3 < sizeAt s at → Record s at 2
-  tokens : length s < nextAt s at → Record s at 3
-  lossless : 1 < losslessAt s at → Record s at 4
+  none : length s ≤ at → Record s at 1
+  head : length s < at + HEAD_BYTES → Record s at 2
+  size : 3 < sizeAt s at → Record s at 3
+  tokens : length s < nextAt s at → Record s at 4
+  lossless : 1 < losslessAt s at → Record s at 5
 
 -- the number of each step of a record, 0 for none
 abbrev pub recordNumbers : List ℕ
-recordNumbers = 0 ∷ 12 ∷ 2 ∷ 12 ∷ 14 ∷ []
+recordNumbers = 0 ∷ 0 ∷ 12 ∷ 2 ∷ 12 ∷ 14 ∷ []
+
+-- the reading ends at a place: one of the first four steps of a record applies
+pub data Ends (s : List ℕ) (at : ℕ) : Type 0 where
+  none : length s ≤ at → Ends s at
+  head : length s < at + HEAD_BYTES → Ends s at
+  size : 3 < sizeAt s at → Ends s at
+  tokens : length s < nextAt s at → Ends s at
 
 -- a run over a file: the rooms lent for the plane and the answers, then the header
 pub data Run (s samples answers : List ℕ) : ℕ → Type 0 where

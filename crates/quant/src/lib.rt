@@ -50,7 +50,7 @@ fn widened(coef: i64, size: u32) -> u64
 }
 
 // The smaller of the two.
-fn least(a: u64, b: u64) -> u64
+pub fn least(a: u64, b: u64) -> u64
     ensures { λ r. ⌜ r ≡ min a b ⌝ }
 {
     if a < b {

@@ -6,10 +6,11 @@ use Prim.Native.Nat.{ℕ, zero, suc, _+_, _*_, _/_, _≤_, _<_}
 use native.Mathlib.Numerals.{add-one}
 use native.Mathlib.Nat as NatL
 use native.Mathlib.Omega.{arith}
-use borrow.Author.Tests.{lt-ltb, le-ltb, ne-eqb}
+use borrow.Author.Tests.{lt-ltb, le-ltb, ne-eqb, ltb-false}
 use lib.Dec.{ltb, eqb}
 use lib.IntN.{ℤ, pos, natAbs}
 use lib.ListN.{length, getD}
+use lib.Signed.{ltZ}
 use Rattle.whole.specs.Tests.{anyBelow}
 use Rattle.whole.proofs.Lists.{getD-tabulate}
 use Rattle.answers.specs.Limits.{COEF_LIMIT, codeable}
@@ -20,27 +21,36 @@ use Rattle.quant.specs.declared.AcQuant.{AcQuant}
 use Rattle.quant.specs.Places.{quantizerAt, dequantAll}
 use Rattle.quant.specs.Token.{dqDenom, dequant}
 use Rattle.quant.proofs.Sign.{dequant-sign, abs-with-sign}
-use Rattle.reconstruct.specs.Reconstruct.{badQuantizers, badCoefficient, tokenAnswer}
-use Rattle.reconstruct.specs.Bound.{Bounds, SmallTokens, anyAbove}
+use Rattle.reconstruct.specs.Reconstruct.{badQuantizers, badCoefficient}
+use Rattle.reconstruct.specs.Inner.{tokenAnswer, Bounds, SmallTokens, anyAbove}
+use Rattle.reconstruct.specs.declared.DcBound.{DcBound}
+use Rattle.reconstruct.specs.declared.AcBound.{AcBound}
 use Rattle.reconstruct.proofs.Sizes.{place-fine}
+
+pub never : {A : Type 0} → false ≡ true → A
+never h = absurd (let z : _≡_ {A = ℕ} 0 1 = cc in omega arith)
+
+-- a quantizer that the quick test passes
+pub near : (q : ℤ) → badQuantizer q ≡ false → ltZ (pos 16384) q ≡ false → natAbs q ≤ 16384
+near q h l = ltb-false 16384 (natAbs q) (rw (quantizer q h .is) at l)
 
 -- the count is not 0
 pub counted : (n : ℕ) → not (eqb n 0) ≡ ltb 0 n
 counted zero = refl
 counted (suc n) = rw (ne-eqb (suc n) 0 (λ e. absurd (omega arith)), lt-ltb 0 (suc n) (omega arith))
 
-module _ (dc ac : ℕ) (tokens : List ℤ) where
+module _ (dc : DcBound) (ac : AcBound) (tokens : List ℤ) where
   pub above-none : ltb 0 0 ≡ anyAbove dc ac 0 tokens
   unfolding anyAbove anyBelow
   above-none = refl
 
-  pub above-hit : (k n : ℕ) → cond (eqb k 0) dc ac < natAbs (getD tokens k (pos 0)) → ltb 0 (n + 1) ≡ anyAbove dc ac (k + 1) tokens
+  pub above-hit : (k n : ℕ) → cond (eqb k 0) (dc .0) (ac .0) < natAbs (getD tokens k (pos 0)) → ltb 0 (n + 1) ≡ anyAbove dc ac (k + 1) tokens
   unfolding anyAbove anyBelow
-  above-hit k n h = rw (add-one k, lt-ltb (cond (eqb k 0) dc ac) (natAbs (getD tokens k (pos 0))) h) (lt-ltb 0 (n + 1) (omega arith))
+  above-hit k n h = rw (add-one k, lt-ltb (cond (eqb k 0) (dc .0) (ac .0)) (natAbs (getD tokens k (pos 0))) h) (lt-ltb 0 (n + 1) (omega arith))
 
-  pub above-miss : (k : ℕ) {b : Bool} → natAbs (getD tokens k (pos 0)) ≤ cond (eqb k 0) dc ac → b ≡ anyAbove dc ac k tokens → b ≡ anyAbove dc ac (k + 1) tokens
+  pub above-miss : (k : ℕ) {b : Bool} → natAbs (getD tokens k (pos 0)) ≤ cond (eqb k 0) (dc .0) (ac .0) → b ≡ anyAbove dc ac k tokens → b ≡ anyAbove dc ac (k + 1) tokens
   unfolding anyAbove anyBelow
-  above-miss k h e = rw (add-one k, le-ltb (cond (eqb k 0) dc ac) (natAbs (getD tokens k (pos 0))) h) e
+  above-miss k h e = rw (add-one k, le-ltb (cond (eqb k 0) (dc .0) (ac .0)) (natAbs (getD tokens k (pos 0))) h) e
 
 -- ---- two scans in one
 any-same : (p q : ℕ → Bool) (n : ℕ) → ((k : ℕ) → k < n → p k ≡ q k) → anyBelow p n ≡ anyBelow q n
@@ -64,13 +74,13 @@ pub dequant-abs : (size : ℕ) (q t : ℤ) → badQuantizer q ≡ false → natA
 dequant-abs size q t h =
     rw (quantizer q h .is) (ap natAbs (dequant-sign size (natAbs q) t) ∙ abs-with-sign t (natAbs t * natAbs q / dqDenom size))
 
-module _ (size most dc ac : ℕ) (d : DcQuant) (a : AcQuant) (fine : badQuantizers d a ≡ false) (bd : Bounds size (d .0) most dc) (ba : Bounds size (a .0) most ac) where
+module _ (size most : ℕ) (dc : DcBound) (ac : AcBound) (d : DcQuant) (a : AcQuant) (fine : badQuantizers d a ≡ false) (bd : Bounds size (d .0) most (dc .0)) (ba : Bounds size (a .0) most (ac .0)) where
   -- the bound and the quantizer of place k
-  place-bounds : (k : ℕ) → Bounds size (quantizerAt d a k) most (cond (eqb k 0) dc ac)
+  place-bounds : (k : ℕ) → Bounds size (quantizerAt d a k) most (cond (eqb k 0) (dc .0) (ac .0))
   unfolding quantizerAt
   place-bounds k = go (eqb k 0)
     where
-      go : (b : Bool) → Bounds size (cond b (d .0) (a .0)) most (cond b dc ac)
+      go : (b : Bool) → Bounds size (cond b (d .0) (a .0)) most (cond b (dc .0) (ac .0))
       go true = bd
       go false = ba
 

@@ -10,8 +10,8 @@ use borrow.Author.Tests.{eqb-true}
 use lib.Dec.{ltb, eqb, lit≤}
 use lib.IntN.{ℤ, pos, natAbs, _*ℤ_}
 use lib.Pow.{pow-pos}
-use lib.Seq.{ext-getD}
-use lib.ListN.{length, getD, replicate, length-replicate, getD-replicate, List·getD-eq-default}
+use lib.Seq.{ext-getD, getD-set-same, getD-set-other}
+use lib.ListN.{length, getD, set, replicate, length-replicate, getD-replicate, length-set}
 use Rattle.whole.specs.Lists.{tabulate, fill}
 use Rattle.whole.specs.Tests.{anyBelow}
 use Rattle.whole.specs.Within.{Within}
@@ -32,16 +32,16 @@ use Rattle.plane.specs.Place.{SamplesOf}
 use Rattle.plane.specs.Plane.{planeAfter}
 use Rattle.plane.proofs.Block.{same-residuals}
 use Rattle.blocks.specs.Block.{row, column, rows, anew}
-use Rattle.blocks.specs.Inner.{live, FirstWithin, dcValue, Possible}
+use Rattle.blocks.specs.Inner.{onlyDc, live, FirstWithin, dcValue, Possible}
 use Rattle.blocks.specs.Inverse.{apply, rowPass, columnPass, bits, rounding, inverse2d}
 use Rattle.blocks.proofs.Places.{in-row, in-column, by-place}
 use Rattle.blocks.proofs.Lines.{line-same, zeros-at}
 use Rattle.blocks.proofs.Live.{dead-at}
 use Rattle.blocks.proofs.Blocks.{block-ext, rows-at, anew-length, anew-at, anew-past}
 use Rattle.blocks.proofs.Inverse.{inverse2d-length, inverse2d-at, inverse2d-past, inverse2d-within, dc-only}
-use Rattle.idct.proofs.Answers.{any-type}
 use Rattle.answers.specs.Sizes.{side, area}
-use Rattle.reconstruct.specs.Reconstruct.{badQuantizers, Accepted, onlyFirst, residual, added}
+use Rattle.reconstruct.specs.Reconstruct.{badQuantizers, residual, added}
+use Rattle.reconstruct.specs.Inner.{Accepted}
 use Rattle.reconstruct.proofs.Sixteen.{below-sixteen, few-length, few-at}
 use Rattle.reconstruct.proofs.Sizes.{by-size, area-most, side-most, place-fine}
 
@@ -199,14 +199,14 @@ module _ (dc : DcQuant) (ac : AcQuant) (tx-type : ℕ) (lossless : Bool) (tokens
     -- and the residual is that of the sixteen coefficients
     pub made : (other : ℕ) (whole : Bool) {block after : List ℤ} → block ≡ inFront 16 0 dc ac tokens → after ≡ inverse2d 2 other whole block
         → ((s : List ℤ) → inverse2d 2 other whole s ≡ inverse2d 2 tx-type lossless s)
-        → after ≡ inverse2d 2 tx-type lossless (fill 16 (λ k. dequant 0 (quantizerAt dc ac k) (getD tokens k (pos 0))) z)
+        → after ≡ inverse2d 2 tx-type lossless (fill 16 (λ k. dequant 0 (quantizerAt dc ac k) (getD tokens k (pos 0))) (replicate 1024 (pos 0)))
     unfolding inFront
-    made other whole f m t =
-        m ∙ t _ ∙ ap (inverse2d 2 tx-type lossless) (f ∙ ap (fill 16 (λ k. dequant 0 (quantizerAt dc ac k) (getD tokens k (pos 0)))) (sym e))
+    made other whole f m t = m ∙ t _ ∙ ap (inverse2d 2 tx-type lossless) f
 
 -- the type is not looked at when lossless
 pub as-lossless : (tx-type : ℕ) (lossless : Bool) → lossless ≡ true → (s : List ℤ) → inverse2d 2 0 true s ≡ inverse2d 2 tx-type lossless s
-as-lossless tx-type lossless l s = any-type 2 tx-type s ∙ rw l
+unfolding inverse2d
+as-lossless tx-type lossless l s = rw l
 
 pub as-lossy : (other tx-type : ℕ) (lossless : Bool) → tx-type ≡ other → lossless ≡ false → (s : List ℤ) → inverse2d 2 other false s ≡ inverse2d 2 tx-type lossless s
 as-lossy other tx-type lossless t l s = rw (t, l)
@@ -241,30 +241,54 @@ turned-within : (m : ℕ) {x : ℤ} → Within m x → Within ((m * 11585 + 8192
 unfolding turned
 turned-within m {x} b = round2-within 14 {x = x *ℤ pos 11585} (omega arith) (within-mul b (within-lit 11585 (pos 11585) tt))
 
-pub dcOnly-within : (size : ℕ) (x : ℤ) → size ≤ 3 → Within COEF_LIMIT x → Within (2 ^ 62) (dcValue (size + 2) x)
+pub dcValue-within : (size : ℕ) (x : ℤ) → size ≤ 3 → Within COEF_LIMIT x → Within (2 ^ 62) (dcValue (size + 2) x)
 unfolding dcValue
-dcOnly-within size x h b =
+dcValue-within size x h b =
     let w : Within (2 ^ 31) (turned (turned x)) = within-le (lit≤ tt) (turned-within _ (turned-within _ b)) in
     within-le
     (by-size (λ s. (2 ^ 31 + 2 ^ (bits (s + 2) - 1)) / 2 ^ bits (s + 2) ≤ 2 ^ 62) (lit≤ tt) (lit≤ tt) (lit≤ tt) (lit≤ tt) size h)
     (round2-within (bits (size + 2)) (by-size (λ s. 1 ≤ bits (s + 2)) (lit≤ tt) (lit≤ tt) (lit≤ tt) (lit≤ tt) size h) w)
 
-pub row-within : (n : ℕ) (v : ℤ) → Within (2 ^ 62) v → AllWithin (2 ^ 62) (replicate n v)
-row-within n v b = record { each = λ k. go k (decLt k n) }
+-- what stood in the block is overwritten
+pub fill-over : (n : ℕ) (g : ℕ → ℤ) (u : List ℤ) (x : ℤ) → 0 < n → fill n g (set u 0 x) ≡ fill n g u
+fill-over n g u x h =
+    ext-getD (pos 0) (fill n g (set u 0 x)) (fill n g u) (length-fill n g (set u 0 x) ∙ length-set u 0 x ∙ sym (length-fill n g u)) (λ k l. go k (omega (arith, length-fill n g (set u 0 x), length-set u 0 x)) (decLt k n))
   where
-    go : (k : ℕ) → Dec (k < n) → Within (2 ^ 62) (getD (replicate n v) k (pos 0))
-    go k (yes h) = rw (getD-replicate n k v (pos 0) h) b
-    go k (no h) = rw (List·getD-eq-default (replicate n v) (pos 0) {n = k} (rw (length-replicate n v) (omega arith))) within-zero
+    go : (k : ℕ) → k < length u → Dec (k < n) → getD (fill n g (set u 0 x)) k (pos 0) ≡ getD (fill n g u) k (pos 0)
+    go k l (yes m) = fill-below (pos 0) n g (set u 0 x) k m (omega (arith, length-set u 0 x)) ∙ sym (fill-below (pos 0) n g u k m l)
+    go k l (no m) = fill-rest (pos 0) n g (set u 0 x) k (omega arith) ∙ getD-set-other u 0 k x (pos 0) (λ e. absurd (omega arith)) ∙ sym (fill-rest (pos 0) n g u k (omega arith))
+
+-- one number at every place of a block of 1,024 zeros
+module _ (size : ℕ) (v : ℤ) (h : size ≤ 3) where
+  pub flat-length : length (fill (area (size + 2)) (λ k. v) (replicate 1024 (pos 0))) ≡ 1024
+  flat-length = length-fill (area (size + 2)) (λ k. v) (replicate 1024 (pos 0)) ∙ length-replicate 1024 (pos 0)
+
+  pub flat-number : (k : ℕ) → k < area (size + 2) → getD (fill (area (size + 2)) (λ k. v) (replicate 1024 (pos 0))) k (pos 0) ≡ v
+  flat-number k l = fill-below (pos 0) (area (size + 2)) (λ k. v) (replicate 1024 (pos 0)) k l (rw (length-replicate 1024 (pos 0)) (omega (arith, area-most size h)))
+
+  pub flat-within : Within (2 ^ 62) v → AllWithin (2 ^ 62) (fill (area (size + 2)) (λ k. v) (replicate 1024 (pos 0)))
+  flat-within b = record { each = λ k. go k (decLt k (area (size + 2))) }
+    where
+      go : (k : ℕ) → Dec (k < area (size + 2)) → Within (2 ^ 62) (getD (fill (area (size + 2)) (λ k. v) (replicate 1024 (pos 0))) k (pos 0))
+      go k (yes l) = rw (flat-number k l) b
+      go k (no l) = rw (fill-rest (pos 0) (area (size + 2)) (λ k. v) (replicate 1024 (pos 0)) k (omega arith), zeros-at 1024 k) within-zero
 
 -- ---- the type is 0 and place 0 alone is live: one number, added everywhere
 pub some-token : (size : ℕ) → 1 ≤ area (size + 2)
 some-token size = NatL.mul-pos (pow-pos (size + 2)) (pow-pos (size + 2))
 
-pub only-first-is : (tx-type : ℕ) (tokens : List ℤ) → onlyFirst tx-type tokens ≡ true → (tx-type ≡ 0) × (live 1 (length tokens - 1) tokens ≡ false)
-unfolding onlyFirst
-only-first-is tx-type tokens h = go (eqb tx-type 0) (live 1 (length tokens - 1) tokens) refl refl
+-- the block as the code makes it: x at place 0, and then f of it at every place
+pub flat-block : (size count : ℕ) (f : ℤ → ℤ) (x d : ℤ) (z b : List ℤ) → z ≡ replicate 1024 (pos 0) → x ≡ d → count ≡ area (size + 2)
+    → b ≡ fill count (λ k. f (getD (set z 0 x) 0 (pos 0))) (set z 0 x) → b ≡ fill (area (size + 2)) (λ k. f d) (replicate 1024 (pos 0))
+flat-block size count f x d z b e h m q =
+    let l : 0 < length z = rw (e, length-replicate 1024 (pos 0)) (omega arith) in
+    q ∙ rw (getD-set-same z 0 x (pos 0) l, h, m) (fill-over (area (size + 2)) (λ k. f d) z d (some-token size) ∙ ap (fill (area (size + 2)) (λ k. f d)) e)
+
+pub only-dc-is : (count tx-type : ℕ) (tokens : List ℤ) → onlyDc count tx-type tokens ≡ true → (tx-type ≡ 0) × (live 1 (count - 1) tokens ≡ false)
+unfolding onlyDc
+only-dc-is count tx-type tokens h = go (eqb tx-type 0) (live 1 (count - 1) tokens) refl refl
   where
-    go : (a b : Bool) → eqb tx-type 0 ≡ a → live 1 (length tokens - 1) tokens ≡ b → (tx-type ≡ 0) × (live 1 (length tokens - 1) tokens ≡ false)
+    go : (a b : Bool) → eqb tx-type 0 ≡ a → live 1 (count - 1) tokens ≡ b → (tx-type ≡ 0) × (live 1 (count - 1) tokens ≡ false)
     go true false p q = (eqb-true tx-type 0 p, q)
     go true true p q = absurd (let z : _≡_ {A = ℕ} 0 1 = cc (rw (p, q) at h) in omega arith)
     go false b p q = absurd (let z : _≡_ {A = ℕ} 0 1 = cc (rw p at h) in omega arith)
@@ -289,10 +313,10 @@ flat-plain p top x y size dc ac tokens samples s a dead =
     same-residuals p samples s top x y (side (size + 2)) (λ i j. dcValue (size + 2) (dequant size (dc .0) (getD tokens 0 (pos 0)))) _ (flat-at size dc ac tokens a dead)
 
 pub flat-added : (p : Plane) (top x y size : ℕ) (dc : DcQuant) (ac : AcQuant) (tx-type : ℕ) (lossless : Bool) (tokens : List ℤ) (samples : List ℕ) → SamplesOf p samples
-    → Accepted size dc ac tx-type lossless tokens → lossless ≡ false → onlyFirst tx-type tokens ≡ true
+    → Accepted size dc ac tx-type lossless tokens → lossless ≡ false → onlyDc (length tokens) tx-type tokens ≡ true
     → planeAfter p top x y (side (size + 2)) (λ i j. dcValue (size + 2) (dequant size (dc .0) (getD tokens 0 (pos 0)))) samples ≡ added p top x y size dc ac tx-type lossless tokens samples
 flat-added p top x y size dc ac tx-type lossless tokens samples s a l o =
-    let k = only-first-is tx-type tokens o in
+    let k = only-dc-is (length tokens) tx-type tokens o in
     rw (k .0, l) (flat-plain p top x y size dc ac tokens samples s (rw (k .0, l) at a) (k .1))
 
 -- the first coefficient is within its limit

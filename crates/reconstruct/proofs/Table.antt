@@ -1,4 +1,4 @@
--- What the table of answers says: its two parts, what answer 0 means, and that the promise fixes the result.
+-- What the table of answers says: its two parts, and what answer 0 means.
 use mathlib.Core.Path.{_≡_, refl, sym, ap, _∙_}
 use mathlib.Core.Bool.{Bool, true, false, cond, not, _&&_, _||_}
 use mathlib.Core.List.{List}
@@ -9,17 +9,17 @@ use borrow.Author.Tests.{ltb-false, eqb-true, eq-eqb, ne-eqb, not-false}
 use lib.Dec.{ltb, eqb}
 use lib.IntN.{ℤ, pos, natAbs}
 use lib.ListN.{length, getD}
-use Rattle.answers.specs.declared.Answer.{Answer}
 use Rattle.answers.specs.Limits.{COEF_LIMIT, SIDE_LIMIT, codeable}
 use Rattle.answers.specs.Bad.{badDepth, badSize, badLossless, badTxType, anyBeyond}
-use Rattle.answers.proofs.Numbers.{number-injective, pass, rest}
+use Rattle.answers.proofs.Numbers.{pass, rest}
 use Rattle.answers.proofs.Passed.{codeable-most, none-beyond}
 use Rattle.quant.specs.Places.{dequantAll}
 use Rattle.plane.specs.declared.Plane.{Plane}
 use Rattle.plane.specs.Place.{SamplesOf, areaOf}
 use Rattle.blocks.specs.Inner.{Possible}
 use Rattle.answers.specs.Sizes.{area}
-use Rattle.reconstruct.specs.Reconstruct.{Input, largest, badQuantizers, badPlane, badCoefficient, answerOf, tokenAnswer, shapeOf, Accepted, added, samplesAfter, Reconstructed}
+use Rattle.reconstruct.specs.Reconstruct.{Input, largest, badQuantizers, badPlane, badCoefficient, answerOf, added, samplesAfter}
+use Rattle.reconstruct.specs.Inner.{tokenAnswer, shapeOf, Accepted}
 
 -- y goes on where x gives 0, and is x where it does not
 record Goes (t x y : ℕ) : Type 0 where
@@ -134,7 +134,3 @@ accepted u s h =
       codeables = λ k l. NatL.le-trans (none-beyond (codeable (u .depth)) n (u .tokens) (pass (anyBeyond (codeable (u .depth)) n (u .tokens)) 7 _ h) k l) (codeable-most (u .depth));
       coefs = none-beyond COEF_LIMIT n c (pass (anyBeyond COEF_LIMIT n c) 8 _ (rest (anyBeyond (codeable (u .depth)) n (u .tokens)) 7 _ h));
     }
-
--- two results that meet the promise coincide
-pub coincide : (u : Input) (a b : Answer) (l m : List ℕ) → Reconstructed u a l → Reconstructed u b m → (a ≡ b) × (l ≡ m)
-coincide u a b l m p q = (number-injective a b (p .answered ∙ sym (q .answered)), p .written ∙ sym (q .written))

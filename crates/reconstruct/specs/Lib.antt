@@ -1,2 +1,2 @@
-pub mod Bound
 pub mod Reconstruct
+pub mod Inner

@@ -1,10 +1,10 @@
 -- The reconstruction of a block: its answer, and every sample of the plane afterwards. Specification §8.6.2.
 use mathlib.Core.Path.{_≡_}
-use mathlib.Core.Bool.{Bool, false, cond, not, _&&_, _||_}
+use mathlib.Core.Bool.{Bool, cond, not, _||_}
 use mathlib.Core.List.{List, [], _∷_}
-use Prim.Native.Nat.{ℕ, _+_, _-_, _*_, _^_, _≤_, _<_}
+use Prim.Native.Nat.{ℕ, _+_, _-_, _*_, _^_}
 use lib.Dec.{ltb, eqb}
-use lib.IntN.{ℤ, pos, natAbs}
+use lib.IntN.{ℤ, pos}
 use lib.ListN.{length, getD}
 use Rattle.answers.specs.declared.Answer.{Answer}
 use Rattle.answers.specs.Answers.{number, lowest}
@@ -17,7 +17,6 @@ use Rattle.quant.specs.Places.{dequantAll}
 use Rattle.plane.specs.declared.Plane.{Plane}
 use Rattle.plane.specs.Place.{areaOf}
 use Rattle.plane.specs.Plane.{planeAfter}
-use Rattle.blocks.specs.Inner.{live, Possible}
 use Rattle.blocks.specs.Inverse.{inverse2d}
 
 -- what the call is given
@@ -66,38 +65,6 @@ answerOf u =
     ∷ (9, badCoefficient (u .size) (u .dc) (u .ac) (u .tokens))
     ∷ []
     )
-
--- the part of the table for the tokens
-unfoldable pub tokenAnswer : ℕ → DcQuant → AcQuant → ℕ → List ℤ → ℕ
-tokenAnswer size dc ac depth tokens =
-    lowest ((8, anyBeyond (codeable depth) (length tokens) tokens) ∷ (9, badCoefficient size dc ac tokens) ∷ [])
-
--- the part of the table that needs no token and no sample, only how many there are
-unfoldable pub shapeOf : ℕ → Plane → ℕ → ℕ → DcQuant → AcQuant → ℕ → Bool → ℕ → ℕ
-shapeOf samples plane size tokens dc ac tx-type lossless depth =
-    lowest
-    (
-    (1, badDepth depth)
-    ∷ (2, badSize size)
-    ∷ (3, badLossless lossless size)
-    ∷ (4, badTxType lossless size tx-type)
-    ∷ (5, badQuantizers dc ac)
-    ∷ (6, not (eqb tokens (area (size + 2))))
-    ∷ (7, badPlane samples plane)
-    ∷ []
-    )
-
--- tokens that are taken: the table has nothing against them, their number, their quantizers, the size and the type
-pub record Accepted (size : ℕ) (dc : DcQuant) (ac : AcQuant) (tx-type : ℕ) (lossless : Bool) (tokens : List ℤ) : Type 0 where
-  pub possible : Possible (size + 2) tx-type lossless
-  pub quantizers : badQuantizers dc ac ≡ false
-  pub all : length tokens ≡ area (size + 2)
-  pub codeables : (k : ℕ) → k < length tokens → natAbs (getD tokens k (pos 0)) ≤ codeable 12
-  pub coefs : (k : ℕ) → k < length tokens → natAbs (getD (dequantAll size dc ac tokens) k (pos 0)) ≤ COEF_LIMIT
-
--- the type is 0, and of the tokens only that at place 0 is live
-unfoldable pub onlyFirst : ℕ → List ℤ → Bool
-onlyFirst tx-type tokens = eqb tx-type 0 && not (live 1 (length tokens - 1) tokens)
 
 -- the residual, step 3 of §8.6.2: the inverse transform of the coefficients
 unfoldable pub residual : ℕ → DcQuant → AcQuant → ℕ → Bool → List ℤ → List ℤ

@@ -2,16 +2,19 @@ use answers::Answer;
 use answers::COEF_LIMIT;
 use answers::SIDE_LIMIT;
 use answers::any_beyond;
+use answers::area;
 use answers::bad_depth;
 use answers::bad_lossless;
 use answers::bad_size;
 use answers::bad_tx_type;
 use answers::code;
 use answers::magnitude;
+use answers::side;
 use blocks::any_live;
 use plane::Plane;
 use quant::AcQuant;
 use quant::DcQuant;
+use quant::least;
 use quant::max_codeable_coef;
 ghost use mathlib.Core.Bool.{true, false, cond};
 ghost use mathlib.Core.Path.{_≡_};
@@ -28,24 +31,11 @@ ghost use Rattle.quant.specs.Places.{quantizerAt};
 ghost use Rattle.quant.specs.Token.{dqDenom, dequant};
 ghost use Rattle.plane.specs.Place.{SamplesOf};
 ghost use Rattle.plane.specs.Plane.{planeAfter};
-ghost use Rattle.blocks.specs.Inner.{live, FirstWithin, dcValue};
+ghost use Rattle.blocks.specs.Inner.{live, onlyDc, FirstWithin, dcValue};
 ghost use Rattle.blocks.specs.Inverse.{inverse2d};
-ghost use Rattle.reconstruct.specs.Bound.{Bounds, SmallTokens, anyAbove};
-ghost use Rattle.answers.specs.Sizes.{side};
-ghost use Rattle.reconstruct.specs.Reconstruct.{largest, badQuantizers, badPlane, shapeOf, tokenAnswer, Accepted, added, onlyFirst, Reconstructed};
-
-// n0, the numbers of a row of the block.
-fn side(size: u32) -> usize
-    requires { ⌜ size ≤ 3 ⌝ }
-    ensures { λ r. ⌜ r ≡ side (size + 2) ⌝ }
-{
-    match size {
-        0 => 4,
-        1 => 8,
-        2 => 16,
-        _ => 32,
-    }
-}
+ghost use Rattle.reconstruct.specs.Inner.{Bounds, SmallTokens, anyAbove, shapeOf, tokenAnswer, Accepted};
+ghost use Rattle.answers.specs.Sizes.{side, area};
+ghost use Rattle.reconstruct.specs.Reconstruct.{largest, badQuantizers, badPlane, added, Reconstructed};
 
 // The largest sample.
 fn largest(depth: u32) -> u16
@@ -113,8 +103,7 @@ fn check(
     if bad_quantizers(dc_quant, ac_quant) {
         return Answer::Quantizer;
     }
-    let n0 = side(size);
-    if tokens != n0 * n0 {
+    if tokens != area(size + 2) {
         return Answer::Length;
     }
     if bad_plane(samples, plane) {
@@ -123,8 +112,13 @@ fn check(
     Answer::Done
 }
 
+// The greatest magnitude of a token at place 0, and of one at any other place: two types, so that neither stands for the other.
+struct DcBound(u64);
+
+struct AcBound(u64);
+
 // The greatest product of token and quantizer whose coefficient is within its limit.
-fn room(size: u32) -> u64
+fn largest_product(size: u32) -> u64
     ensures { λ r. ⌜ r ≡ COEF_LIMIT * dqDenom size + (dqDenom size - 1) ⌝ }
 {
     if size == 3 {
@@ -133,47 +127,35 @@ fn room(size: u32) -> u64
     COEF_LIMIT
 }
 
-// The greatest magnitude, at most `most`, of a token whose coefficient is within its limit.
-fn reach(quantizer: i32, size: u32, most: u64) -> u64
-    requires { ⌜ (badQuantizer quantizer ≡ false) × (most ≤ codeable 12) ⌝ }
-    ensures { λ r. ⌜ Bounds size quantizer most r ⌝ }
-{
-    let q = quantizer as u64;
-    let top = room(size);
-    if most * q <= top {
-        return most;
-    }
-    top / q
-}
-
-fn dc_reach(dc_quant: DcQuant, size: u32, most: u64) -> u64
-    requires { ⌜ (badQuantizer («dc_quant» .0) ≡ false) × (most ≤ codeable 12) ⌝ }
-    ensures { λ r. ⌜ Bounds size («dc_quant» .0) most r ⌝ }
+// At most `most`, and its coefficient within its limit.
+fn dc_bound(dc_quant: DcQuant, size: u32, most: u64) -> DcBound
+    requires { ⌜ badQuantizer («dc_quant» .0) ≡ false ⌝ }
+    ensures { λ r. ⌜ Bounds size («dc_quant» .0) most (r .0) ⌝ }
 {
     let dc = dc_quant.0;
-    reach(dc, size, most)
+    DcBound(least(most, largest_product(size) / (dc as u64)))
 }
 
-fn ac_reach(ac_quant: AcQuant, size: u32, most: u64) -> u64
-    requires { ⌜ (badQuantizer («ac_quant» .0) ≡ false) × (most ≤ codeable 12) ⌝ }
-    ensures { λ r. ⌜ Bounds size («ac_quant» .0) most r ⌝ }
+fn ac_bound(ac_quant: AcQuant, size: u32, most: u64) -> AcBound
+    requires { ⌜ badQuantizer («ac_quant» .0) ≡ false ⌝ }
+    ensures { λ r. ⌜ Bounds size («ac_quant» .0) most (r .0) ⌝ }
 {
     let ac = ac_quant.0;
-    reach(ac, size, most)
+    AcBound(least(most, largest_product(size) / (ac as u64)))
 }
 
 // The bound of place k.
-fn bound_at(k: usize, dc: u64, ac: u64) -> u64
-    ensures { λ r. ⌜ r ≡ cond (eqb k 0) dc ac ⌝ }
+fn bound_at(k: usize, dc: DcBound, ac: AcBound) -> u64
+    ensures { λ r. ⌜ r ≡ cond (eqb k 0) (dc .0) (ac .0) ⌝ }
 {
     if k == 0 {
-        return dc;
+        return dc.0;
     }
-    ac
+    ac.0
 }
 
 // Whether some of the first `count` tokens is above its bound; a count and no early return, for speed.
-fn some_above(tokens: &[i64], count: usize, dc: u64, ac: u64) -> bool
+fn some_above(tokens: &[i64], count: usize, dc: DcBound, ac: AcBound) -> bool
     requires { ⌜ count ≤ length (now tokens) ⌝ }
     ensures { λ r. ⌜ r ≡ anyAbove dc ac count (now (tokens .entry)) ⌝ }
 {
@@ -197,17 +179,38 @@ fn all_near(tokens: &[i64]) -> bool
     blocks::or_plus_most(tokens, 0, count, 8192) < 16384
 }
 
+// A quantizer is at most 16,384.
+fn dc_near(dc_quant: DcQuant) -> bool
+    requires { ⌜ badQuantizer («dc_quant» .0) ≡ false ⌝ }
+    ensures { λ r. ⌜ (r ≡ true → natAbs («dc_quant» .0) ≤ 16384) ⌝ }
+{
+    let dc = dc_quant.0;
+    if 16384 < dc {
+        return false;
+    }
+    true
+}
+
+fn ac_near(ac_quant: AcQuant) -> bool
+    requires { ⌜ badQuantizer («ac_quant» .0) ≡ false ⌝ }
+    ensures { λ r. ⌜ (r ≡ true → natAbs («ac_quant» .0) ≤ 16384) ⌝ }
+{
+    let ac = ac_quant.0;
+    if 16384 < ac {
+        return false;
+    }
+    true
+}
+
 // Whether no limit is near: 8,192 × 16,384 is the coefficients' limit. Quick, and enough for almost every block.
 fn all_small(tokens: &[i64], dc_quant: DcQuant, ac_quant: AcQuant) -> bool
     requires { ⌜ badQuantizers «dc_quant» «ac_quant» ≡ false ⌝ }
     ensures { λ r. ⌜ (r ≡ true → SmallTokens «dc_quant» «ac_quant» (now (tokens .entry))) ⌝ }
 {
-    let dc = dc_quant.0;
-    let ac = ac_quant.0;
-    if 16384 < dc {
+    if !dc_near(dc_quant) {
         return false;
     }
-    if 16384 < ac {
+    if !ac_near(ac_quant) {
         return false;
     }
     all_near(tokens)
@@ -231,8 +234,8 @@ fn check_tokens(
     if some_above(
         tokens,
         tokens.len(),
-        dc_reach(dc_quant, size, most),
-        ac_reach(ac_quant, size, most),
+        dc_bound(dc_quant, size, most),
+        ac_bound(ac_quant, size, most),
     ) {
         if any_beyond(tokens, tokens.len(), most) {
             return Answer::Token;
@@ -240,13 +243,6 @@ fn check_tokens(
         return Answer::Coefficient;
     }
     Answer::Done
-}
-
-// 1,024 zeros.
-fn zeros() -> [i64; 1024]
-    ensures { λ r. ⌜ r ≡ replicate 1024 (pos 0) ⌝ }
-{
-    [0i64; 1024]
 }
 
 // The coefficient of the token at place k: DC at place 0, AC at all others.
@@ -343,7 +339,7 @@ fn residual4(
     lossless: bool,
 )
     requires { ⌜ (now block ≡ replicate 1024 (pos 0)) × Accepted 0 «dc_quant» «ac_quant» «tx_type» lossless (now tokens) ⌝ }
-    ensures { λ _. ⌜ now (block .exit) ≡ inverse2d 2 «tx_type» lossless (fill 16 (λ k. dequant 0 (quantizerAt «dc_quant» «ac_quant» k) (getD (now (tokens .entry)) k (pos 0))) (now (block .entry))) ⌝ }
+    ensures { λ _. ⌜ now (block .exit) ≡ inverse2d 2 «tx_type» lossless (fill 16 (λ k. dequant 0 (quantizerAt «dc_quant» «ac_quant» k) (getD (now (tokens .entry)) k (pos 0))) (replicate 1024 (pos 0))) ⌝ }
 {
     if lossless {
         if any_live(tokens, 8, 8) {
@@ -360,7 +356,7 @@ fn residual4(
         wht4(block);
         return;
     }
-    if only_first(tokens, 16, tx_type) {
+    if only_dc(tokens, 16, tx_type) {
         dequantize(block, tokens, 1, 0, dc_quant, ac_quant);
         flat4(block);
         return;
@@ -417,7 +413,7 @@ fn reconstruct_4(
     requires { ⌜ SamplesOf plane (now samples) × Accepted 0 «dc_quant» «ac_quant» «tx_type» lossless (now tokens) ⌝ }
     ensures { λ _. ⌜ now (samples .exit) ≡ added plane top x y 0 «dc_quant» «ac_quant» «tx_type» lossless (now (tokens .entry)) (now (samples .entry)) ⌝ }
 {
-    let mut block = zeros();
+    let mut block = [0i64; 1024];
     residual4(&mut block, tokens, dc_quant, ac_quant, tx_type, lossless);
     add_back4(samples, plane, x, y, &block, top);
 }
@@ -438,17 +434,20 @@ fn reconstruct_n(
     requires { ⌜ SamplesOf plane (now samples) × Accepted size «dc_quant» «ac_quant» «tx_type» false (now tokens) × (1 ≤ size) ⌝ }
     ensures { λ _. ⌜ now (samples .exit) ≡ added plane top x y size «dc_quant» «ac_quant» «tx_type» false (now (tokens .entry)) (now (samples .entry)) ⌝ }
 {
-    let mut block = zeros();
+    let mut block = [0i64; 1024];
     dequantize(&mut block, tokens, tokens.len(), size, dc_quant, ac_quant);
     idct::fast::both_passes(&mut block, size + 2, tx_type);
-    let n0 = side(size);
+    let n0 = side(size + 2);
     plane::add_back(samples, plane, x, y, &block, n0, n0, top);
 }
 
-fn row_of(v: i64) -> [i64; 32]
-    ensures { λ r. ⌜ r ≡ replicate 32 v ⌝ }
+// The residual of the token at place 0 alone, of type 0, in a block of zeros: its coefficient, and then one number everywhere.
+fn residual_dc(block: &mut [i64; 1024], size: u32, token: i64, dc_quant: DcQuant)
+    requires { ⌜ (now block ≡ replicate 1024 (pos 0)) × (size ≤ 3) × (badQuantizer («dc_quant» .0) ≡ false) × (natAbs token ≤ codeable 12) × (natAbs (dequant size («dc_quant» .0) token) ≤ COEF_LIMIT) ⌝ }
+    ensures { λ _. ⌜ now (block .exit) ≡ fill (area (size + 2)) (λ k. dcValue (size + 2) (dequant size («dc_quant» .0) token)) (replicate 1024 (pos 0)) ⌝ }
 {
-    [v; 32]
+    block[0] = dc_quant.dequant(token, size);
+    idct::fast::dc_fill(block, size + 2, area(size + 2));
 }
 
 // Only the token at place 0 is live, and the type is 0: every number of the residual is the same.
@@ -465,16 +464,16 @@ fn reconstruct_flat(
     requires { ⌜ SamplesOf plane (now samples) × (size ≤ 3) × (badQuantizer («dc_quant» .0) ≡ false) × (natAbs token ≤ codeable 12) × (natAbs (dequant size («dc_quant» .0) token) ≤ COEF_LIMIT) ⌝ }
     ensures { λ _. ⌜ now (samples .exit) ≡ planeAfter plane top x y (side (size + 2)) (λ i j. dcValue (size + 2) (dequant size («dc_quant» .0) token)) (now (samples .entry)) ⌝ }
 {
-    let mut block = zeros();
-    block[0] = dc_quant.dequant(token, size);
-    let row = row_of(idct::fast::dc_value(block[0], size + 2));
-    plane::add_back(samples, plane, x, y, &row, 0, side(size), top);
+    let mut block = [0i64; 1024];
+    residual_dc(&mut block, size, token, dc_quant);
+    let n0 = side(size + 2);
+    plane::add_back(samples, plane, x, y, &block, n0, n0, top);
 }
 
 // Whether the type is 0 and no token of the `count` but that at place 0 is live.
-fn only_first(tokens: &[i64], count: usize, tx_type: u8) -> bool
-    requires { ⌜ (1 ≤ count) × (length (now tokens) ≡ count) ⌝ }
-    ensures { λ r. ⌜ r ≡ onlyFirst «tx_type» (now (tokens .entry)) ⌝ }
+fn only_dc(tokens: &[i64], count: usize, tx_type: u8) -> bool
+    requires { ⌜ (1 ≤ count) × (count ≤ length (now tokens)) ⌝ }
+    ensures { λ r. ⌜ r ≡ onlyDc count «tx_type» (now (tokens .entry)) ⌝ }
 {
     if tx_type != 0 {
         return false;
@@ -514,7 +513,7 @@ fn add_residual(
         );
         return;
     }
-    if only_first(tokens, tokens.len(), tx_type) {
+    if only_dc(tokens, tokens.len(), tx_type) {
         reconstruct_flat(samples, plane, x, y, size, tokens[0], dc_quant, top);
         return;
     }

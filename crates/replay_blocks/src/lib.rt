@@ -46,11 +46,11 @@ fn answers_room() -> [u8; 874]
     [0; 874]
 }
 
-fn wide16(x: u16) -> i64 {
+fn signed16(x: u16) -> i64 {
     x as i64
 }
 
-fn wide8(x: u8) -> i64 {
+fn signed8(x: u8) -> i64 {
     x as i64
 }
 
@@ -113,7 +113,7 @@ fn from_samples(samples: &[u16], count: usize, into: &mut [i64])
 {
     let mut i = 0;
     while i < count {
-        let x = wide16(samples[i]);
+        let x = signed16(samples[i]);
         into[i] = x;
         i += 1;
     }
@@ -126,7 +126,7 @@ fn from_bytes(bytes: &[u8], count: usize, into: &mut [i64])
 {
     let mut i = 0;
     while i < count {
-        let x = wide8(bytes[i]);
+        let x = signed8(bytes[i]);
         into[i] = x;
         i += 1;
     }
@@ -257,7 +257,7 @@ fn same_run(
 ) -> usize {
     let answer = run.answer;
     let fields = run.fields;
-    let area = vbk_read::area(fields.width, fields.height);
+    let area = vbk_read::plane_area(fields.width, fields.height);
     let touched = lines::same_unsigned(line, at, answers::code(answer) as u64);
     let list = lines::same_unsigned(line, touched, run.touched as u64);
     let next = same_bytes(line, list, answers, run.count, numbers);

@@ -14,12 +14,13 @@ use Rattle.vbk_read.specs.Header.{versionOf, depthOf, widthOf, heightOf, planeA
 use Rattle.vbk_read.specs.declared.Fields.{Fields}
 use Rattle.vbk_read.proofs.Headers.{good}
 use Rattle.vbk_text.specs.Text.{Outcome, refused, ran, text, TEXT_LIMIT}
-use Rattle.vbk_text.specs.Writing.{Room, Put}
+use Rattle.vbk_text.specs.Inner.{Room, Put}
 use Rattle.vbk_text.proofs.Size.{Small, run-fits, refusal-fits}
 use Rattle.vbk_text.proofs.Writing.{put-front, put-count, put-within}
 use Rattle.vbk.specs.Replay.{replay}
 use Rattle.vbk.specs.Filled.{reconstruction}
-use Rattle.vbk.specs.Promises.{runOf, roomy, runAnswer, samplesFor, answersFor, Replayed, outcomeOf, printable, Printed}
+use Rattle.vbk.specs.Promises.{runOf, roomy, runAnswer, samplesFor, answersFor, Replayed, printable, Printed}
+use Rattle.vbk.specs.Inner.{outcomeOf}
 use Rattle.vbk.specs.declared.Run.{Run}
 use Rattle.vbk.proofs.Numbers.{number-most}
 use Rattle.vbk.proofs.Runs.{enough}
@@ -109,12 +110,12 @@ module _ (s samples answers out : List ℕ) where
         answers-are = d .answers-are ∙ rw run-fine
 
         -- a run keeps the plane's length
-        plane-long : length (runOf s .plane) ≡ planeArea s
+        plane-long : length (runOf s .samples) ≡ planeArea s
         plane-long =
-            omega (arith, ls, ap length samples-are, length-append (runOf s .plane) (drop (planeArea s) samples), length-drop (planeArea s) samples, good s fine .area-fits)
+            omega (arith, ls, ap length samples-are, length-append (runOf s .samples) (drop (planeArea s) samples), length-drop (planeArea s) samples, good s fine .area-fits)
 
-        taken-samples : take (planeArea s) samples′ ≡ runOf s .plane
-        taken-samples = ap (take (planeArea s)) samples-are ∙ take-at (runOf s .plane) (drop (planeArea s) samples) (planeArea s) plane-long
+        taken-samples : take (planeArea s) samples′ ≡ runOf s .samples
+        taken-samples = ap (take (planeArea s)) samples-are ∙ take-at (runOf s .samples) (drop (planeArea s) samples) (planeArea s) plane-long
 
         taken-answers : take (r .count) answers′ ≡ runOf s .answers
         taken-answers =
@@ -134,7 +135,7 @@ module _ (s samples answers out : List ℕ) where
         area-fits = omega (arith, area-of, good s fine .area-fits, ls)
 
         module _ (bytes : (k : ℕ) → getD s k 0 < 256) (samples-fit : (k : ℕ) → getD samples′ k 0 < 65536) (answers-fit : (k : ℕ) → getD answers′ k 0 < 256) where
-          small : Small (versionOf s) (depthOf s) (widthOf s) (heightOf s) (runOf s .answers) (runOf s .plane) (runOf s .touched)
+          small : Small (versionOf s) (depthOf s) (widthOf s) (heightOf s) (runOf s .answers) (runOf s .samples) (runOf s .touched)
           small =
               let g = good s fine in
               record {

@@ -1,47 +1,35 @@
 -- Laws of a run: nothing after the end, one record more, what is done and what is left, how far the numbers go.
 use mathlib.Core.Path.{_≡_, refl, sym, ap, _∙_}
-use mathlib.Core.Bool.{Bool, true, false, cond}
+use mathlib.Core.Bool.{Bool, true, false, cond, not}
 use mathlib.Core.List.{List, [], _∷_, _++_, append-assoc, append-nil}
 use Prim.Native.Nat.{ℕ, zero, suc, _+_, _*_, _-_, _≤_, _<_}
 use native.Mathlib.Nat as N
 use native.Mathlib.Numerals.{add-one}
 use native.Mathlib.Omega.{arith}
-use borrow.Author.Tests.{le-leb, lt-leb, not-false, eqb-true, ltb-false}
+use borrow.Author.Tests.{le-ltb, lt-ltb, not-false, eqb-true, ltb-false}
 use lib.Dec.{ltb, eqb}
 use lib.ListN.{length, take, drop, set, length-set, take-append-drop}
 use lib.Seq.{take-suc-set, length-take-le, drop-set-lt, drop-drop}
 use Rattle.answers.proofs.Numbers.{pass, rest}
 use Rattle.answers.specs.Answers.{number}
-use Rattle.vbk_read.specs.Records.{sizeAt, losslessAt, headAt, nextAt, endAnswer, ends, losslessAnswer, checkAnswer, tokenCount, Recorded}
+use Rattle.answers.specs.Sizes.{area}
+use Rattle.vbk_read.specs.Records.{sizeAt, losslessAt, headAt, nextAt, found, endAnswer, ends, losslessAnswer, checkAnswer, readOn, Recorded}
 use Rattle.vbk_read.specs.declared.Head.{Head}
 use Rattle.vbk_read.specs.declared.Record.{Record}
 use Rattle.vbk_read.proofs.Records.{count-least}
-use Rattle.vbk.specs.Replay.{Reconstruction, After, noRecord, andThen, touchedBy, rebuildAt, rebuiltAt, records, Stepped, Ran}
+use Rattle.vbk.specs.Replay.{Reconstruction, After, noRecord, andThen, touchedBy, rebuildAt, rebuiltAt, recordAt, records}
+use Rattle.vbk.specs.Inner.{Stepped, Ran}
 
 module _ (R : Reconstruction) (s : List ℕ) where
-  pub records-none : (k at : ℕ) (plane : List ℕ) → length s ≤ at → records R s k at plane ≡ noRecord plane
+  pub records-none : (k at : ℕ) (samples : List ℕ) → length s ≤ at → records R s k at samples ≡ noRecord samples
   unfolding records
-  records-none zero at plane h = refl
-  records-none (suc k) at plane h = rw (le-leb (length s) at h)
+  records-none zero at samples h = refl
+  records-none (suc k) at samples h = rw (le-ltb at (length s) h)
 
-  -- where the reading ends, nothing is left at the place to read on from
-  pub records-step : (k at : ℕ) (plane : List ℕ) {a t n : ℕ} {p : List ℕ} → at < length s → Stepped R s at plane a t n p → records R s (suc k) at plane ≡ andThen a t (records R s k n p)
+  pub records-more : (k at : ℕ) (samples : List ℕ) → at < length s
+      → records R s (suc k) at samples ≡ andThen (recordAt R s at samples .answer) (touchedBy (recordAt R s at samples .answer) (sizeAt s at)) (records R s k (readOn s at) (recordAt R s at samples .samples))
   unfolding records
-  records-step k at plane {a} {t} {n} {p} h d = go (ends s at) refl
-    where
-      go : (b : Bool) → ends s at ≡ b → records R s (suc k) at plane ≡ andThen a t (records R s k n p)
-      go true e =
-          let da : a ≡ endAnswer s at = d .answer-is ∙ rw e in
-          let dt : t ≡ 0 = d .touched-is ∙ rw e in
-          let dn : n ≡ length s = d .next-is ∙ rw e in
-          let dp : p ≡ plane = d .after-is ∙ rw e in
-          rw (lt-leb (length s) at h, e, records-none k n p (omega arith), da, dt, dp)
-      go false e =
-          let da : a ≡ rebuiltAt R s at plane .answer = d .answer-is ∙ rw e in
-          let dt : t ≡ touchedBy (rebuiltAt R s at plane .answer) (sizeAt s at) = d .touched-is ∙ rw e in
-          let dn : n ≡ nextAt s at = d .next-is ∙ rw e in
-          let dp : p ≡ rebuiltAt R s at plane .plane = d .after-is ∙ rw e in
-          rw (lt-leb (length s) at h, e, da, dt, dn, dp)
+  records-more k at samples h = rw (lt-ltb at (length s) h)
 
 -- a record after which the reading goes on is there to its last byte
 pub there : (s : List ℕ) (at : ℕ) → ends s at ≡ false → (sizeAt s at ≤ 3) × (nextAt s at ≤ length s)
@@ -52,14 +40,19 @@ there s at h =
     let e3 = rest (ltb 3 (sizeAt s at)) 1 _ e2 in
     (ltb-false 3 (sizeAt s at) (pass (ltb 3 (sizeAt s at)) 1 _ e2), ltb-false (length s) (nextAt s at) (pass (ltb (length s) (nextAt s at)) 11 _ e3))
 
--- the three ways of a record: it ends the reading, its lossless byte is refused, reconstruction answers
-check-on : (s : List ℕ) (at : ℕ) → ends s at ≡ false → checkAnswer s at ≡ losslessAnswer (losslessAt s at)
-unfolding checkAnswer
-check-on s at e = rw e
+-- the answer that ends the reading is not 0
+not-done : (b : Bool) → not b ≡ true → b ≡ false
+not-done true e = sym e
+not-done false e = refl
 
-check-last : (s : List ℕ) (at : ℕ) → ends s at ≡ true → checkAnswer s at ≡ endAnswer s at
-unfolding checkAnswer
-check-last s at e = rw e
+last-not-done : (s : List ℕ) (at : ℕ) → ends s at ≡ true → eqb (endAnswer s at) 0 ≡ false
+last-not-done s at e = not-done (eqb (endAnswer s at) 0) e
+
+zero-done : (a : ℕ) → a ≡ 0 → eqb a 0 ≡ false → ⊥
+zero-done a e h = never (rw e at h)
+  where
+    never : true ≡ false → ⊥
+    never p = omega (arith, ap {B = ℕ} (λ (b : Bool). cond b 1 0) p)
 
 refused-is : (b : Bool) (a : ℕ) → a ≡ cond b 14 0 → (a ≡ 0 → ⊥) → b ≡ true
 refused-is true a e h = refl
@@ -69,54 +62,99 @@ passed-is : (b : Bool) → cond {A = ℕ} b 14 0 ≡ 0 → b ≡ false
 passed-is true e = absurd (omega arith)
 passed-is false e = refl
 
-module _ (R : Reconstruction) (s : List ℕ) (at : ℕ) (plane : List ℕ) {r : Record} (d : Recorded s at r) where
-  pub step-ends : {a : ℕ} → r .ends ≡ true → a ≡ number (r .answer) → Stepped R s at plane a 0 (length s) plane
-  step-ends {a} e h =
-      let w : ends s at ≡ true = sym (d .ends-is) ∙ e in
-      record { answer-is = h ∙ d .answered ∙ check-last s at w ∙ sym (rw w); touched-is = rw w; next-is = rw w; after-is = rw w }
+module _ (s : List ℕ) (at : ℕ) {r : Record} (d : Recorded s at r) (f : r .found ≡ true) where
+  there-is : found s at ≡ true
+  there-is = sym (d .found-is) ∙ f
 
-  pub step-refused : {a n : ℕ} → r .ends ≡ false → a ≡ number (r .answer) → (a ≡ 0 → ⊥) → n ≡ r .next .at → Stepped R s at plane a 0 n plane
-  unfolding rebuiltAt touchedBy
-  step-refused {a} {n} e h nz hn =
-      let w : ends s at ≡ false = sym (d .ends-is) ∙ e in
-      let ha : a ≡ losslessAnswer (losslessAt s at) = h ∙ d .answered ∙ check-on s at w in
-      let l : ltb 1 (losslessAt s at) ≡ true = refused-is (ltb 1 (losslessAt s at)) a ha nz in
-      record {
-        answer-is = ha ∙ rw (w, l);
-        touched-is = rw (w, l);
-        next-is = hn ∙ d .next-is ∙ rw w;
-        after-is = rw (w, l);
-      }
+  check-on : ends s at ≡ false → number (r .answer) ≡ losslessAnswer (losslessAt s at)
+  unfolding checkAnswer
+  check-on e = d .answered ∙ rw (there-is, e)
 
-  pub step-rebuilt : {a t n : ℕ} {p : List ℕ} → r .ends ≡ false → number (r .answer) ≡ 0 → a ≡ rebuildAt R s at plane .answer → t ≡ touchedBy a (r .head .size) → n ≡ r .next .at → p ≡ rebuildAt R s at plane .plane
-      → Stepped R s at plane a t n p
-  unfolding rebuiltAt
-  step-rebuilt {a} {t} {n} {p} e z ha ht hn hp =
-      let w : ends s at ≡ false = sym (d .ends-is) ∙ e in
-      let hd : r .head ≡ headAt s at = d .head-is ∙ rw w in
-      let l : ltb 1 (losslessAt s at) ≡ false = passed-is (ltb 1 (losslessAt s at)) (sym (check-on s at w) ∙ sym (d .answered) ∙ z) in
-      record {
-        answer-is = ha ∙ sym (rw (w, l));
-        touched-is = ht ∙ ap (λ (h : Head). touchedBy a (h .size)) hd ∙ ap (λ (x : ℕ). touchedBy x (sizeAt s at)) ha ∙ sym (rw (w, l));
-        next-is = hn ∙ d .next-is ∙ rw w;
-        after-is = hp ∙ sym (rw (w, l));
-      }
+  check-last : ends s at ≡ true → number (r .answer) ≡ endAnswer s at
+  unfolding checkAnswer
+  check-last e = d .answered ∙ rw (there-is, e)
 
-  -- what a whole record tells
-  pub whole-record : r .ends ≡ false → (sizeAt s at ≤ 3) × (nextAt s at ≤ length s) × (r .head ≡ headAt s at)
-  whole-record e =
-      let w : ends s at ≡ false = sym (d .ends-is) ∙ e in
-      let t = there s at w in
-      (t .0, t .1, d .head-is ∙ rw w)
+  -- a record that its own checks refuse
+  module _ (R : Reconstruction) (samples : List ℕ) (z : number (r .answer) ≡ 0 → ⊥) where
+    refused-lossless : ends s at ≡ false → ltb 1 (losslessAt s at) ≡ true
+    refused-lossless e = refused-is (ltb 1 (losslessAt s at)) (number (r .answer)) (check-on e) z
+
+    pub refused-answer : number (r .answer) ≡ recordAt R s at samples .answer
+    unfolding recordAt rebuiltAt
+    refused-answer = go (ends s at) refl
+      where
+        go : (b : Bool) → ends s at ≡ b → number (r .answer) ≡ recordAt R s at samples .answer
+        go true e = check-last e ∙ sym (rw e)
+        go false e = check-on e ∙ rw (refused-lossless e, e)
+
+    pub refused-samples : samples ≡ recordAt R s at samples .samples
+    unfolding recordAt rebuiltAt
+    refused-samples = go (ends s at) refl
+      where
+        go : (b : Bool) → ends s at ≡ b → samples ≡ recordAt R s at samples .samples
+        go true e = rw e
+        go false e = rw (refused-lossless e, e)
+
+  -- a record that its own checks pass
+  module _ (z : number (r .answer) ≡ 0) where
+    pub goes-on : ends s at ≡ false
+    goes-on = go (ends s at) refl
+      where
+        go : (b : Bool) → ends s at ≡ b → ends s at ≡ false
+        go true e = absurd (zero-done (endAnswer s at) (sym (check-last e) ∙ z) (last-not-done s at e))
+        go false e = e
+
+    pub good-lossless : ltb 1 (losslessAt s at) ≡ false
+    good-lossless = passed-is (ltb 1 (losslessAt s at)) (sym (check-on goes-on) ∙ z)
+
+    pub head-there : r .head ≡ headAt s at
+    head-there = d .head-is ∙ rw (goes-on, good-lossless)
+
+    pub rebuilt-is : (R : Reconstruction) (samples : List ℕ) → recordAt R s at samples ≡ rebuildAt R s at samples
+    unfolding recordAt rebuiltAt
+    rebuilt-is R samples = rw (goes-on, good-lossless)
+
+    -- what reconstruction asks
+    pub whole-record : (sizeAt s at ≤ 3) × (nextAt s at ≤ length s) × (r .head ≡ headAt s at)
+    whole-record = let w = there s at goes-on in (w .0, w .1, head-there)
+
+-- a record that ends the reading touches nothing
+last-answer : (R : Reconstruction) (s : List ℕ) (at : ℕ) (samples : List ℕ) → ends s at ≡ true → recordAt R s at samples .answer ≡ endAnswer s at
+unfolding recordAt
+last-answer R s at samples e = rw e
+
+last-touched : (R : Reconstruction) (s : List ℕ) (at : ℕ) (samples : List ℕ) (size : ℕ) → ends s at ≡ true → touchedBy (recordAt R s at samples .answer) size ≡ 0
+unfolding touchedBy
+last-touched R s at samples size e = ap (λ (x : ℕ). touchedBy x size) (last-answer R s at samples e) ∙ rw (last-not-done s at e)
+
+-- the size in a record's head: 0 where it gives no value
+module _ (s : List ℕ) (at : ℕ) {r : Record} (d : Recorded s at r) where
+  pub head-size : r .head .size ≤ 3
+  head-size = go (ends s at) (ltb 1 (losslessAt s at)) refl refl
+    where
+      go : (b c : Bool) → ends s at ≡ b → ltb 1 (losslessAt s at) ≡ c → r .head .size ≤ 3
+      go true c e h = let k : r .head .size ≡ 0 = ap (λ (x : Head). x .size) (d .head-is) ∙ rw e in omega (arith, k)
+      go false true e h = let k : r .head .size ≡ 0 = ap (λ (x : Head). x .size) (d .head-is) ∙ rw (e, h) in omega (arith, k)
+      go false false e h = let k : r .head .size ≡ sizeAt s at = ap (λ (x : Head). x .size) (d .head-is) ∙ rw (e, h) in omega (arith, k, there s at e .0)
+
+  -- and that is the record's size, wherever it is counted
+  pub touched-size : (R : Reconstruction) (samples : List ℕ) → r .found ≡ true → touchedBy (recordAt R s at samples .answer) (r .head .size) ≡ touchedBy (recordAt R s at samples .answer) (sizeAt s at)
+  unfolding touchedBy recordAt rebuiltAt
+  touched-size R samples f = go (ends s at) (ltb 1 (losslessAt s at)) refl refl
+    where
+      go : (b c : Bool) → ends s at ≡ b → ltb 1 (losslessAt s at) ≡ c → touchedBy (recordAt R s at samples .answer) (r .head .size) ≡ touchedBy (recordAt R s at samples .answer) (sizeAt s at)
+      go true c e h = last-touched R s at samples (r .head .size) e ∙ sym (last-touched R s at samples (sizeAt s at) e)
+      go false true e h = rw (e, h)
+      go false false e h = let k : r .head .size ≡ sizeAt s at = ap (λ (x : Head). x .size) (d .head-is) ∙ rw (e, h) in ap (touchedBy (recordAt R s at samples .answer)) k
 
 -- what is done of a run, and what is left of it
 pub record SoFar (total : After) (answers : List ℕ) (count touched : ℕ) (left : After) : Type 0 where
   pub answers-are : total .answers ≡ take count answers ++ left .answers
-  pub plane-is : total .plane ≡ left .plane
+  pub samples-are : total .samples ≡ left .samples
   pub touched-is : total .touched ≡ touched + left .touched
 
 pub far-none : (total : After) (answers : List ℕ) → SoFar total answers 0 0 total
-far-none total answers = record { answers-are = refl; plane-is = refl; touched-is = omega arith }
+far-none total answers = record { answers-are = refl; samples-are = refl; touched-is = omega arith }
 
 pub far-more : {total left next : After} {answers : List ℕ} {count touched a : ℕ} (t : ℕ) → SoFar total answers count touched left → left ≡ andThen a t next → count < length answers
     → SoFar total (set answers count a) (count + 1) (touched + t) next
@@ -127,12 +165,12 @@ far-more {total} {left} {next} {answers} {count} {touched} {a} t f e h =
           ∙ sym (append-assoc (take count answers) (a ∷ []) (next .answers))
           ∙ ap (λ (l : List ℕ). l ++ next .answers) (sym (take-suc-set answers count a h))
           ∙ rw add-one;
-      plane-is = f .plane-is ∙ ap (λ (l : After). l .plane) e;
+      samples-are = f .samples-are ∙ ap (λ (l : After). l .samples) e;
       touched-is = omega (arith, f .touched-is, ap (λ (l : After). l .touched) e);
     }
 
-pub far-done : {total left : After} {answers plane : List ℕ} {count touched : ℕ} → SoFar total answers count touched left → left ≡ noRecord plane → SoFar total answers count touched (noRecord plane)
-far-done {total} {left} {answers} {plane} {count} {touched} f e = rw e at f
+pub far-done : {total left : After} {answers samples : List ℕ} {count touched : ℕ} → SoFar total answers count touched left → left ≡ noRecord samples → SoFar total answers count touched (noRecord samples)
+far-done {total} {left} {answers} {samples} {count} {touched} f e = rw e at f
 
 -- how far the place and the counts go: a whole record takes 75 bytes at least, and four bytes a token
 pub record Placed (s : List ℕ) (count touched at : ℕ) : Type 0 where
@@ -141,42 +179,43 @@ pub record Placed (s : List ℕ) (count touched at : ℕ) : Type 0 where
   pub spaced : at < length s → 12 + 75 * count ≤ at
   pub touched-few : 4 * touched ≤ at
 
-touched-most : (a size : ℕ) → touchedBy a size ≤ tokenCount size
+pub touched-most : (a size : ℕ) → touchedBy a size ≤ area (size + 2)
 unfolding touchedBy
 touched-most a size = go (eqb a 0)
   where
-    go : (b : Bool) → cond b (tokenCount size) 0 ≤ tokenCount size
+    go : (b : Bool) → cond b (area (size + 2)) 0 ≤ area (size + 2)
     go true = omega arith
     go false = omega arith
 
-pub placed-step : (R : Reconstruction) (s : List ℕ) (at : ℕ) (plane : List ℕ) {a t n count touched : ℕ} {p : List ℕ} → length s ≤ 65535 → at < length s → Stepped R s at plane a t n p → Placed s count touched at
-    → Placed s (count + 1) (touched + t) n
-unfolding nextAt
-placed-step R s at plane {a} {t} {n} {count} {touched} {p} small h d q = go (ends s at) refl
-  where
-    go : (b : Bool) → ends s at ≡ b → Placed s (count + 1) (touched + t) n
-    go true e =
-        let dt : t ≡ 0 = d .touched-is ∙ rw e in
-        let dn : n ≡ length s = d .next-is ∙ rw e in
-        let sp = q .spaced h in
-        record { within = omega arith; few = omega arith; spaced = λ l. absurd (omega arith); touched-few = omega (arith, q .touched-few) }
-    go false e =
-        let dt : t ≡ touchedBy (rebuiltAt R s at plane .answer) (sizeAt s at) = d .touched-is ∙ rw e in
-        let dn : n ≡ nextAt s at = d .next-is ∙ rw e in
-        let sp = q .spaced h in
-        let w = there s at e in
-        let least = count-least (sizeAt s at) (w .0) in
-        let most = touched-most (rebuiltAt R s at plane .answer) (sizeAt s at) in
-        record { within = omega (arith, w .1); few = omega arith; spaced = λ l. omega arith; touched-few = omega (arith, q .touched-few) }
+-- one record more, from `at` to the place to read on from
+module _ (R : Reconstruction) (s : List ℕ) (at : ℕ) (samples : List ℕ) (h : at < length s) where
+  pub placed-step : {count touched : ℕ} → length s ≤ 65535 → Placed s count touched at
+      → Placed s (count + 1) (touched + touchedBy (recordAt R s at samples .answer) (sizeAt s at)) (readOn s at)
+  unfolding nextAt
+  placed-step {count} {touched} small q = go (ends s at) refl
+    where
+      go : (b : Bool) → ends s at ≡ b → Placed s (count + 1) (touched + touchedBy (recordAt R s at samples .answer) (sizeAt s at)) (readOn s at)
+      go true e =
+          let dt : touchedBy (recordAt R s at samples .answer) (sizeAt s at) ≡ 0 = last-touched R s at samples (sizeAt s at) e in
+          let dn : readOn s at ≡ length s = rw e in
+          let sp = q .spaced h in
+          record { within = omega (arith, dn); few = omega arith; spaced = λ l. absurd (omega (arith, dn)); touched-few = omega (arith, q .touched-few, dn, dt) }
+      go false e =
+          let dn : readOn s at ≡ nextAt s at = rw e in
+          let sp = q .spaced h in
+          let w = there s at e in
+          let least = count-least (sizeAt s at) (w .0) in
+          let most = touched-most (recordAt R s at samples .answer) (sizeAt s at) in
+          record { within = omega (arith, w .1, dn); few = omega arith; spaced = λ l. omega (arith, dn); touched-few = omega (arith, q .touched-few, dn) }
 
--- each record moves the place on
-pub moves : (R : Reconstruction) (s : List ℕ) (at : ℕ) (plane : List ℕ) {a t n : ℕ} {p : List ℕ} → at < length s → Stepped R s at plane a t n p → at < n
-unfolding nextAt
-moves R s at plane {a} {t} {n} h d = go (ends s at) refl
-  where
-    go : (b : Bool) → ends s at ≡ b → at < n
-    go true e = let dn : n ≡ length s = d .next-is ∙ rw e in omega arith
-    go false e = let dn : n ≡ nextAt s at = d .next-is ∙ rw e in omega arith
+  -- each record moves the place on
+  pub moves : at < readOn s at
+  unfolding nextAt
+  moves = go (ends s at) refl
+    where
+      go : (b : Bool) → ends s at ≡ b → at < readOn s at
+      go true e = let dn : readOn s at ≡ length s = rw e in omega (arith, dn)
+      go false e = let dn : readOn s at ≡ nextAt s at = rw e in omega (arith, dn)
 
 -- the loop over the records: after `count` of them
 pub record Reading (R : Reconstruction) (s : List ℕ) (from : ℕ) (samples₀ answers₀ samples answers : List ℕ) (at count touched : ℕ) : Type 0 where
@@ -201,20 +240,24 @@ module _ (R : Reconstruction) (s : List ℕ) (from : ℕ) (samples₀ answers₀
     pub reading-room : length s ≤ 65535 → 874 ≤ length answers₀ → at < length s → count < length answers
     reading-room small room h = omega (arith, g .placed .spaced h, g .as-long)
 
-    pub reading-more : {a t n : ℕ} {p : List ℕ} → length s ≤ 65535 → 874 ≤ length answers₀ → at < length s → Stepped R s at samples a t n p → length p ≡ length samples
-        → Reading R s from samples₀ answers₀ p (set answers count a) n (count + 1) (touched + t)
-    reading-more {a} {t} {n} {p} small room h d l =
+    pub reading-more : {samples′ answers′ : List ℕ} {count′ touched′ : ℕ} → length s ≤ 65535 → 874 ≤ length answers₀ → at < length s → Stepped R s at samples answers count touched samples′ answers′ count′ touched′ → length samples′ ≡ length samples
+        → Reading R s from samples₀ answers₀ samples′ answers′ (readOn s at) count′ touched′
+    reading-more {samples′} {answers′} {count′} {touched′} small room h d l =
         let k : length s - count ≡ suc (length s - (count + 1)) = omega (arith, g .placed .spaced h) in
-        record {
-          placed = placed-step R s at samples small h d (g .placed);
+        let a = recordAt R s at samples .answer in
+        let t = touchedBy a (sizeAt s at) in
+        let p = placed-step R s at samples h small (g .placed) in
+        rw (d .count-is, d .touched-is, d .answers-are, d .samples-are)
+        (record {
+          placed = p;
           far =
-              far-more t (g .far) (ap (λ (k : ℕ). records R s k at samples) k ∙ records-step R s (length s - (count + 1)) at samples h d)
+              far-more t (g .far) (ap (λ (k : ℕ). records R s k at samples) k ∙ records-more R s (length s - (count + 1)) at samples h)
               (reading-room small room h);
           as-long = length-set answers count a ∙ g .as-long;
           behind =
               drop-set-lt (count + 1) answers count a (omega arith) ∙ sym (drop-drop 1 count answers) ∙ ap (drop 1) (g .behind) ∙ drop-drop 1 count answers₀;
-          samples-as-long = l ∙ g .samples-as-long;
-        }
+          samples-as-long = ap length (sym (d .samples-are)) ∙ l ∙ g .samples-as-long;
+        })
 
     pub reading-done : length s ≤ 65535 → 874 ≤ length answers₀ → length s ≤ at → Ran (records R s (length s) from samples₀) count touched answers₀ answers samples
     reading-done small room h =
@@ -224,7 +267,7 @@ module _ (R : Reconstruction) (s : List ℕ) (from : ℕ) (samples₀ answers₀
           count-is = sym (ap length a ∙ length-take-le count answers (omega (arith, g .placed .few, g .as-long)));
           touched-is = omega (arith, f .touched-is);
           answers-are = sym (ap (λ (l : List ℕ). l ++ drop count answers₀) a ∙ ap (λ (l : List ℕ). take count answers ++ l) (sym (g .behind)) ∙ take-append-drop count answers);
-          samples-are = sym (f .plane-is);
+          samples-are = sym (f .samples-are);
           count-most = g .placed .few;
           touched-most = omega (arith, g .placed .touched-few, g .placed .within);
         }

@@ -11,20 +11,21 @@ use Rattle.whole.specs.Lists.{fill}
 use Rattle.whole.proofs.Lists.{fill-all}
 use Rattle.answers.specs.Answers.{number}
 use Rattle.answers.specs.declared.Answer.{Answer}
-use Rattle.vbk_read.specs.Header.{sampleAt, planeOf, planeArea, firstRecord, headerAnswer, fieldsOf, noFields}
+use Rattle.vbk_read.specs.Header.{sampleAt, samplesOf, planeArea, firstRecord, headerAnswer, fieldsOf, noFields}
 use Rattle.vbk_read.specs.declared.Fields.{Fields}
-use Rattle.vbk.specs.Replay.{records, recordsOf, Ran}
+use Rattle.vbk.specs.Replay.{records, recordsOf}
 use Rattle.vbk.specs.Filled.{reconstruction}
+use Rattle.vbk.specs.Inner.{Ran}
 use Rattle.vbk.specs.Promises.{runOf, roomy, runAnswer, Replayed}
 use Rattle.vbk.specs.declared.Run.{Run}
 
 -- the samples, read into a room of their own length
-pub plane-read : (s samples : List ℕ) {read : List ℕ} {at : ℕ} → length samples ≡ planeArea s → at ≡ 10 → read ≡ fill (length samples) (sampleAt s at) samples → read ≡ planeOf s
-unfolding planeOf
+pub plane-read : (s samples : List ℕ) {read : List ℕ} {at : ℕ} → length samples ≡ planeArea s → at ≡ 10 → read ≡ fill (length samples) (sampleAt s at) samples → read ≡ samplesOf s
+unfolding samplesOf
 plane-read s samples {read} {at} l e h =
     h ∙ fill-all 0 (sampleAt s at) samples ∙ rw (l, e)
 
-pub ran-of : (s : List ℕ) {from count touched : ℕ} {plane room answers samples : List ℕ} → from ≡ firstRecord s → plane ≡ planeOf s
+pub ran-of : (s : List ℕ) {from count touched : ℕ} {plane room answers samples : List ℕ} → from ≡ firstRecord s → plane ≡ samplesOf s
     → Ran (records reconstruction s (length s) from plane) count touched room answers samples → Ran (runOf s) count touched room answers samples
 unfolding recordsOf
 ran-of s {from} {count} {touched} {plane} {room} {answers} {samples} e p h = rw (e, p) at h

@@ -9,14 +9,16 @@ use lib.ListN.{length, take, replicate, length-replicate}
 use lib.Seq.{getD-take, length-take-le}
 use Rattle.whole.specs.Lists.{fill, tabulate}
 use Rattle.whole.proofs.Lists.{length-fill, fill-below, tabulate-is}
+use Rattle.answers.specs.Sizes.{area}
 use Rattle.reconstruct.specs.Reconstruct.{Input, answerOf, samplesAfter}
 use Rattle.vbk_read.specs.Header.{fieldsOf}
-use Rattle.vbk_read.specs.Records.{sizeAt, headAt, tokenCount, tokenAt, tokensAt, nextAt}
+use Rattle.vbk_read.specs.Records.{sizeAt, headAt, tokenAt, tokensAt, nextAt}
 use Rattle.vbk_read.specs.declared.Fields.{Fields}
 use Rattle.vbk_read.specs.declared.Head.{Head}
 use Rattle.vbk_read.proofs.Records.{count-most}
 use Rattle.vbk.specs.Replay.{rebuildAt}
-use Rattle.vbk.specs.Filled.{reconstruction, reconstructAt}
+use Rattle.vbk.specs.Filled.{reconstruction}
+use Rattle.vbk.specs.Inner.{reconstructAt}
 
 take-fill : (n : ℕ) (g : ℕ → ℤ) (u : List ℤ) → n ≤ length u → take n (fill n g u) ≡ tabulate g n
 take-fill n g u h =
@@ -25,9 +27,9 @@ take-fill n g u h =
     (λ k q. getD-take n (fill n g u) k (pos 0) q ∙ fill-below (pos 0) n g u k q (omega arith))
 
 -- a whole record's head, the count of its tokens, and the room for them
-module _ (s : List ℕ) (at : ℕ) (head : Head) (n : ℕ) (small : sizeAt s at ≤ 3) (there : nextAt s at ≤ length s) (is : head ≡ headAt s at) (count : n ≡ tokenCount (head .size)) (room : List ℤ) (zeros : room ≡ replicate 1024 (pos 0)) where
-  count-is : n ≡ tokenCount (sizeAt s at)
-  count-is = count ∙ ap (λ (h : Head). tokenCount (h .size)) is
+module _ (s : List ℕ) (at : ℕ) (head : Head) (n : ℕ) (small : sizeAt s at ≤ 3) (there : nextAt s at ≤ length s) (is : head ≡ headAt s at) (count : n ≡ area (head .size + 2)) (room : List ℤ) (zeros : room ≡ replicate 1024 (pos 0)) where
+  count-is : n ≡ area (sizeAt s at + 2)
+  count-is = count ∙ ap (λ (h : Head). area (h .size + 2)) is
 
   long : length room ≡ 1024
   long = ap length zeros ∙ length-replicate 1024 (pos 0)
@@ -72,6 +74,6 @@ module _ (s : List ℕ) (at : ℕ) (samples : List ℕ) (head : Head) (fields : 
     unfolding rebuildAt reconstruction
     answer-is = rw (d, a, h, f, t)
 
-    pub samples-are : samplesAfter given ≡ reconstructAt s at samples .plane
+    pub samples-are : samplesAfter given ≡ reconstructAt s at samples .samples
     unfolding rebuildAt reconstruction
     samples-are = rw (d, a, h, f, t)

@@ -1,15 +1,13 @@
 -- The run's reconstruction: the definition of `reconstruct_block`.
-use mathlib.Core.List.{List}
-use Prim.Native.Nat.{ℕ}
 use Rattle.reconstruct.specs.Reconstruct.{Input, answerOf, samplesAfter}
-use Rattle.vbk.specs.Replay.{Reconstruction, Rebuilt, rebuildAt}
+use Rattle.vbk.specs.Replay.{Reconstruction}
 
 -- the answer and the samples of `reconstruct_block`, for the numbers of a record
 unfoldable pub reconstruction : Reconstruction
-reconstruction plane width height x y size tokens dc ac tx-type lossless depth =
+reconstruction samples width height x y size tokens dc ac tx-type lossless depth =
     let u : Input =
     record {
-      samples = plane;
+      samples = samples;
       plane = record { width = width; height = height };
       x = x;
       y = y;
@@ -22,8 +20,4 @@ reconstruction plane width height x y size tokens dc ac tx-type lossless depth =
       depth = depth;
     }
     in
-    record { answer = answerOf u; plane = samplesAfter u }
-
--- what reconstruction does with the record at a place
-abbrev pub reconstructAt : List ℕ → ℕ → List ℕ → Rebuilt
-reconstructAt s at plane = rebuildAt reconstruction s at plane
+    record { answer = answerOf u; samples = samplesAfter u }

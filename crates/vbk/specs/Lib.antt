@@ -1,3 +1,4 @@
 pub mod Replay
 pub mod Filled
 pub mod Promises
+pub mod Inner

@@ -8,7 +8,7 @@ use lib.ListN.{length, take, drop}
 use Rattle.answers.specs.Answers.{number}
 use Rattle.answers.specs.Limits.{AREA_LIMIT, FILE_LIMIT}
 use Rattle.vbk_read.specs.Header.{planeArea, headerAnswer, fieldsOf, noFields}
-use Rattle.vbk_text.specs.Text.{Outcome, ran, text, TEXT_LIMIT}
+use Rattle.vbk_text.specs.Text.{text, TEXT_LIMIT}
 use Rattle.vbk.specs.Replay.{RECORD_LIMIT, After, recordsOf, replay}
 use Rattle.vbk.specs.Filled.{reconstruction}
 use Rattle.vbk.specs.declared.Run.{Run}
@@ -25,9 +25,9 @@ roomy samples answers = leb AREA_LIMIT (length samples) && leb RECORD_LIMIT (len
 unfoldable pub runAnswer : List ℕ → List ℕ → List ℕ → ℕ
 runAnswer s samples answers = cond (roomy samples answers) (headerAnswer s) 6
 
--- the plane after the run at the front of the room for the samples
+-- the samples after the run at the front of the room for them
 abbrev pub samplesFor : List ℕ → List ℕ → List ℕ
-samplesFor s samples = runOf s .plane ++ drop (planeArea s) samples
+samplesFor s samples = runOf s .samples ++ drop (planeArea s) samples
 
 -- every record's answer at the front of the room for the answers
 abbrev pub answersFor : List ℕ → List ℕ → List ℕ
@@ -43,11 +43,6 @@ pub record Replayed (s samples answers : List ℕ) (r : Run) (samples′ answers
   pub answers-are : answers′ ≡ cond (eqb (runAnswer s samples answers) 0) (answersFor s answers) answers
   pub count-most : r .count ≤ RECORD_LIMIT
   pub touched-most : 4 * r .touched ≤ FILE_LIMIT
-
--- what is printed of a run that is not refused, from what it left behind
-abbrev pub outcomeOf : Run → List ℕ → List ℕ → Outcome
-outcomeOf r samples answers =
-    ran (r .fields .version) (r .fields .depth) (r .fields .width) (r .fields .height) (take (r .count) answers) (take (r .fields .width * r .fields .height) samples) (r .touched)
 
 -- the lent rooms hold any run's plane, answers and text
 unfoldable pub printable : List ℕ → List ℕ → List ℕ → Bool

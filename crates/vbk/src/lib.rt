@@ -2,16 +2,18 @@
 ghost use mathlib.Core.Path.{_≡_};
 ghost use Prim.Native.Nat.{_+_, _*_, _≤_, _<_};
 ghost use lib.IntN.{pos};
-ghost use lib.ListN.{length, replicate};
+ghost use mathlib.Core.Bool.{true};
+ghost use lib.ListN.{length};
 ghost use Rattle.answers.specs.Answers.{number};
 ghost use Rattle.vbk_read.specs.Header.{planeArea, headerAnswer, fieldsOf, noFields};
-ghost use Rattle.vbk_read.specs.Records.{sizeAt, headAt, nextAt};
+ghost use Rattle.vbk_read.specs.Records.{sizeAt, headAt, nextAt, Recorded};
 ghost use Rattle.answers.specs.Limits.{FILE_LIMIT};
-ghost use Rattle.vbk.specs.Replay.{RECORD_LIMIT, touchedBy, records, Stepped, Ran};
-ghost use Rattle.vbk.specs.Filled.{reconstruction, reconstructAt};
-ghost use Rattle.vbk.specs.Promises.{runOf, Replayed, outcomeOf, Printed};
+ghost use Rattle.vbk.specs.Replay.{RECORD_LIMIT, touchedBy, recordAt, records};
+ghost use Rattle.vbk.specs.Filled.{reconstruction};
+ghost use Rattle.vbk.specs.Promises.{runOf, Replayed, Printed};
+ghost use Rattle.vbk.specs.Inner.{reconstructAt, Stepped, Ran, outcomeOf};
 ghost use Rattle.vbk_text.specs.Text.{text};
-ghost use Rattle.vbk_text.specs.Writing.{Room, Put};
+ghost use Rattle.vbk_text.specs.Inner.{Room, Put};
 use answers::Answer;
 use plane::Plane;
 use quant::AcQuant;
@@ -19,16 +21,10 @@ use quant::DcQuant;
 use vbk_read::Cursor;
 use vbk_read::Fields;
 use vbk_read::Head;
+use vbk_read::Record;
 
 // No file has more records: the first one stands at byte 12 or later, and all but the last take 75 bytes or more.
 pub const RECORD_LIMIT: usize = 874;
-
-// One record's answer and touched count, and the place to read on from.
-struct Step {
-    answer: u8,
-    touched: usize,
-    next: usize,
-}
 
 // The answer's number, as the byte that is kept of it.
 fn number8(a: Answer) -> u8
@@ -43,7 +39,7 @@ fn touched_by(answer: u8, size: u8) -> usize
     ensures { λ r. ⌜ r ≡ touchedBy answer size ⌝ }
 {
     if answer == 0 {
-        return vbk_read::token_count(size);
+        return answers::area(size as u32 + 2);
     }
     0
 }
@@ -54,19 +50,13 @@ fn quantizer(q: u16) -> i32
     q as i32
 }
 
-fn zeros() -> [i64; 1024]
-    ensures { λ r. ⌜ r ≡ replicate 1024 (pos 0) ⌝ }
-{
-    [0i64; 1024]
-}
-
 // The record at a place, whole and with a good lossless byte: its tokens are read, and reconstruction answers.
 fn rebuild(file: &[u8], at: usize, head: Head, fields: Fields, samples: &mut [u16]) -> Answer
     requires { ⌜ (sizeAt (now file) at ≤ 3) × (nextAt (now file) at ≤ length (now file)) × (head ≡ headAt (now file) at) × (fields ≡ fieldsOf (now file)) ⌝ }
-    ensures { λ r. ⌜ (number r ≡ reconstructAt (now (file .entry)) at (now (samples .entry)) .answer) × (now (samples .exit) ≡ reconstructAt (now (file .entry)) at (now (samples .entry)) .plane) ⌝ }
+    ensures { λ r. ⌜ (number r ≡ reconstructAt (now (file .entry)) at (now (samples .entry)) .answer) × (now (samples .exit) ≡ reconstructAt (now (file .entry)) at (now (samples .entry)) .samples) ⌝ }
 {
-    let n = vbk_read::token_count(head.size);
-    let mut tokens = zeros();
+    let n = answers::area(head.size as u32 + 2);
+    let mut tokens = words::zeros();
     let start = head.next;
     start.read_tokens(file, n, &mut tokens);
     reconstruct::reconstruct_block(
@@ -87,36 +77,17 @@ fn rebuild(file: &[u8], at: usize, head: Head, fields: Fields, samples: &mut [u1
     )
 }
 
-// One record: its own checks, then reconstruction.
-fn one_record(file: &[u8], at: usize, fields: Fields, samples: &mut [u16]) -> Step
-    requires { ⌜ fields ≡ fieldsOf (now file) ⌝ }
-    ensures { λ r. ⌜ Stepped reconstruction (now (file .entry)) at (now (samples .entry)) (r .answer) (r .touched) (r .next) (now (samples .exit)) ⌝ }
+// The record's answer: that of its own checks, or reconstruction's.
+fn answer_record(file: &[u8], at: usize, record: Record, fields: Fields, samples: &mut [u16]) -> u8
+    requires { ⌜ (fields ≡ fieldsOf (now file)) × Recorded (now file) at «record» × («record» .found ≡ true) ⌝ }
+    ensures { λ r. ⌜ (r ≡ recordAt reconstruction (now (file .entry)) at (now (samples .entry)) .answer) × (now (samples .exit) ≡ recordAt reconstruction (now (file .entry)) at (now (samples .entry)) .samples) ⌝ }
 {
-    let r = vbk_read::next_record(file, at);
-    let checks = r.answer;
+    let checks = record.answer;
     let own = number8(checks);
-    if r.ends {
-        return Step {
-            answer: own,
-            touched: 0,
-            next: file.len(),
-        };
-    }
-    let next = r.next.at;
     if own != 0 {
-        return Step {
-            answer: own,
-            touched: 0,
-            next,
-        };
+        return own;
     }
-    let head = r.head;
-    let answer = number8(rebuild(file, at, head, fields, samples));
-    Step {
-        answer,
-        touched: touched_by(answer, head.size),
-        next,
-    }
+    number8(rebuild(file, at, record.head, fields, samples))
 }
 
 // How many records were read, and the touched count.
@@ -125,7 +96,29 @@ struct Tally {
     touched: usize,
 }
 
-// The records from a place on, until the reading ends.
+// One record of the run: its answer is kept, and its touched count added.
+fn one_record(
+    file: &[u8],
+    at: usize,
+    record: Record,
+    fields: Fields,
+    samples: &mut [u16],
+    answers: &mut [u8],
+    tally: Tally,
+) -> Tally
+    requires { ⌜ (fields ≡ fieldsOf (now file)) × Recorded (now file) at «record» × («record» .found ≡ true) × (tally .count < length (now answers)) × (tally .touched ≤ FILE_LIMIT) ⌝ }
+    ensures { λ r. ⌜ Stepped reconstruction (now (file .entry)) at (now (samples .entry)) (now (answers .entry)) (tally .count) (tally .touched) (now (samples .exit)) (now (answers .exit)) (r .count) (r .touched) ⌝ }
+{
+    let answer = answer_record(file, at, record, fields, samples);
+    let count = tally.count;
+    answers[count] = answer;
+    Tally {
+        count: count + 1,
+        touched: tally.touched + touched_by(answer, record.head.size),
+    }
+}
+
+// The records from a place on, until there is none: one reader from the first to the last.
 fn read_records(
     file: &[u8],
     from: usize,
@@ -137,19 +130,20 @@ fn read_records(
     ensures { λ r. ⌜ Ran (records reconstruction (now (file .entry)) (length (now (file .entry))) from (now (samples .entry))) (r .count) (r .touched) (now (answers .entry)) (now (answers .exit)) (now (samples .exit)) ⌝ }
 {
     let mut at = from;
-    let mut count = 0;
-    let mut touched = 0;
-    while at < file.len() {
-        let step = one_record(file, at, fields, samples);
-        answers[count] = step.answer;
-        count += 1;
-        touched += step.touched;
-        at = step.next;
+    let mut record = vbk_read::record_at(file, at);
+    let mut tally = Tally {
+        count: 0,
+        touched: 0,
+    };
+    while record.found {
+        tally = one_record(file, at, record, fields, samples, answers, tally);
+        at = record.next.at;
+        record = vbk_read::record_at(file, at);
     }
-    Tally { count, touched }
+    tally
 }
 
-// The plane as the file has it, then the records.
+// The samples as the file has them, then the records.
 fn play(file: &[u8], fields: Fields, samples: &mut [u16], answers: &mut [u8]) -> Tally
     requires { ⌜ (headerAnswer (now file) ≡ 0) × (fields ≡ fieldsOf (now file)) × (length (now samples) ≡ planeArea (now file)) × (RECORD_LIMIT ≤ length (now answers)) ⌝ }
     ensures { λ r. ⌜ Ran (runOf (now (file .entry))) (r .count) (r .touched) (now (answers .entry)) (now (answers .exit)) (now (samples .exit)) ⌝ }
@@ -203,7 +197,7 @@ pub fn replay(file: &[u8], samples: &mut [u16], answers: &mut [u8]) -> Run
         return refused(answer);
     }
     let fields = h.fields;
-    let n = vbk_read::area(fields.width, fields.height);
+    let n = vbk_read::plane_area(fields.width, fields.height);
     let tally = play(file, fields, &mut samples[..n], answers);
     Run {
         answer,
@@ -213,24 +207,6 @@ pub fn replay(file: &[u8], samples: &mut [u16], answers: &mut [u8]) -> Run
     }
 }
 
-fn wide8(x: u8) -> u64
-    ensures { λ r. ⌜ r ≡ x ⌝ }
-{
-    x as u64
-}
-
-fn wide16(x: u16) -> u64
-    ensures { λ r. ⌜ r ≡ x ⌝ }
-{
-    x as u64
-}
-
-fn long16(x: u16) -> usize
-    ensures { λ r. ⌜ r ≡ x ⌝ }
-{
-    x as usize
-}
-
 // The text of a run that is not refused.
 fn print_run(run: Run, samples: &[u16], answers: &[u8], out: &mut [u8]) -> usize
     requires { ⌜ (run .count ≤ length (now answers)) × (run .fields .width * run .fields .height ≤ length (now samples)) × Room (now out) 0 (text (outcomeOf run (now samples) (now answers))) ⌝ }
@@ -238,11 +214,11 @@ fn print_run(run: Run, samples: &[u16], answers: &[u8], out: &mut [u8]) -> usize
 {
     let fields = run.fields;
     let count = run.count;
-    let n = vbk_read::area(fields.width, fields.height);
-    let version = wide16(fields.version);
-    let depth = wide8(fields.depth);
-    let width = long16(fields.width);
-    let height = long16(fields.height);
+    let n = vbk_read::plane_area(fields.width, fields.height);
+    let version = words::wide16(fields.version);
+    let depth = words::byte64(fields.depth);
+    let width = words::count16(fields.width);
+    let height = words::count16(fields.height);
     vbk_text::write_run(
         out,
         version,

@@ -10,7 +10,8 @@ use lib.Dec.{ltb, eqb}
 use lib.ListN.{length}
 use Rattle.answers.specs.Bad.{badDepth}
 use Rattle.answers.proofs.Numbers.{pass, rest}
-use Rattle.vbk_read.specs.Bytes.{le1, le2, Took}
+use Rattle.vbk_read.specs.Bytes.{le1, le2}
+use Rattle.vbk_read.specs.Inner.{Took}
 use Rattle.vbk_read.specs.Header.{marked, badArea, headerAnswer, fieldsOf, versionOf, depthOf, planeArea, firstRecord}
 use Rattle.vbk_read.specs.declared.Fields.{Fields}
 

@@ -1,15 +1,19 @@
 -- Laws of a record: its checks one by one, the record that ends the reading and the one after which it goes on; its numbers read one after another.
 use mathlib.Core.Path.{_≡_, refl}
-use mathlib.Core.Bool.{false}
+use mathlib.Core.Bool.{true, false, cond}
 use mathlib.Core.List.{List}
 use Prim.Native.Nat.{ℕ, zero, suc, _+_, _≤_, _<_}
 use native.Mathlib.Omega.{arith}
 use borrow.Author.Tests.{lt-ltb, le-ltb, ne-eqb}
+use lib.Dec.{ltb}
 use lib.ListN.{length}
 use Rattle.answers.specs.Answers.{number}
+use Rattle.answers.specs.Sizes.{area}
 use Rattle.answers.specs.declared.Answer.{Answer}
-use Rattle.vbk_read.specs.Bytes.{le1, le2, Took}
-use Rattle.vbk_read.specs.Records.{sizeAt, losslessAt, headAt, tokenCount, nextAt, endAnswer, losslessAnswer, checkAnswer, lastRecord, Recorded}
+use Rattle.answers.specs.declared.Answer.the-variants.{Done}
+use Rattle.vbk_read.specs.Bytes.{le1, le2}
+use Rattle.vbk_read.specs.Records.{sizeAt, losslessAt, headAt, noHead, nextAt, endAnswer, losslessAnswer, checkAnswer, Recorded}
+use Rattle.vbk_read.specs.Inner.{Took, ending}
 use Rattle.vbk_read.specs.declared.Head.{Head}
 use Rattle.vbk_read.specs.declared.Record.{Record}
 
@@ -35,11 +39,11 @@ sizes P p q r t (suc (suc zero)) h = r
 sizes P p q r t (suc (suc (suc zero))) h = t
 sizes P p q r t (suc (suc (suc (suc n)))) h = absurd (omega arith)
 
-pub count-most : (size : ℕ) → size ≤ 3 → tokenCount size ≤ 1024
-count-most = sizes (λ (n : ℕ). tokenCount n ≤ 1024) (omega arith) (omega arith) (omega arith) (omega arith)
+pub count-most : (size : ℕ) → size ≤ 3 → area (size + 2) ≤ 1024
+count-most = sizes (λ (n : ℕ). area (n + 2) ≤ 1024) (omega arith) (omega arith) (omega arith) (omega arith)
 
-pub count-least : (size : ℕ) → size ≤ 3 → 16 ≤ tokenCount size
-count-least = sizes (λ (n : ℕ). 16 ≤ tokenCount n) (omega arith) (omega arith) (omega arith) (omega arith)
+pub count-least : (size : ℕ) → size ≤ 3 → 16 ≤ area (size + 2)
+count-least = sizes (λ (n : ℕ). 16 ≤ area (n + 2)) (omega arith) (omega arith) (omega arith) (omega arith)
 
 module _ (s : List ℕ) (at : ℕ) where
   pub cut-head : length s < at + 11 → endAnswer s at ≡ 12
@@ -58,19 +62,39 @@ module _ (s : List ℕ) (at : ℕ) where
   unfolding endAnswer
   goes-on h k l = rw (le-ltb (length s) (at + 11) h, le-ltb 3 (sizeAt s at) k, le-ltb (length s) (nextAt s at) l)
 
-  -- the record that ends the reading
-  pub last : (n : ℕ) (a : Answer) {r : Record} → r ≡ lastRecord a → endAnswer s at ≡ suc n → number a ≡ suc n → Recorded s at r
+  -- no byte is left
+  pub none : {r : Record} → r ≡ ending false Done (length s) → length s ≤ at → Recorded s at r
   unfolding checkAnswer
-  last n a {r} e h k =
-      rw (e) (record {
-        answered = rw (h, ne-eqb (suc n) 0 (λ q. omega arith)) k;
+  none {r} e h =
+      rw e (record {
+        found-is = rw (le-ltb at (length s) h) refl;
+        ends-is = rw (cut-head (omega arith)) refl;
+        answered = rw (le-ltb at (length s) h) refl;
+        head-is = rw (cut-head (omega arith)) refl;
+        next-is = rw (cut-head (omega arith)) refl;
+      })
+
+  -- the record that ends the reading
+  pub last : (n : ℕ) (a : Answer) {r : Record} → r ≡ ending true a (length s) → at < length s → endAnswer s at ≡ suc n → number a ≡ suc n → Recorded s at r
+  unfolding checkAnswer
+  last n a {r} e l h k =
+      rw e (record {
+        found-is = rw (lt-ltb at (length s) l) refl;
         ends-is = rw (h, ne-eqb (suc n) 0 (λ q. omega arith)) refl;
+        answered = rw (lt-ltb at (length s) l, h, ne-eqb (suc n) 0 (λ q. omega arith)) k;
         head-is = rw (h, ne-eqb (suc n) 0 (λ q. omega arith)) refl;
         next-is = rw (h, ne-eqb (suc n) 0 (λ q. omega arith)) refl;
       })
 
   -- a record after which the reading goes on
-  pub more : (a : Answer) (h : Head) (n : ℕ) → endAnswer s at ≡ 0 → number a ≡ losslessAnswer (losslessAt s at) → h ≡ headAt s at → n ≡ nextAt s at
-      → Recorded s at (record { answer = a; ends = false; head = h; next = record { at = n } })
+  pub more : (a : Answer) (h : Head) (n : ℕ) → at < length s → endAnswer s at ≡ 0 → number a ≡ losslessAnswer (losslessAt s at) → h ≡ cond (ltb 1 (losslessAt s at)) noHead (headAt s at) → n ≡ nextAt s at
+      → Recorded s at (record { found = true; ends = false; answer = a; head = h; next = record { at = n } })
   unfolding checkAnswer
-  more a h n e k p q = record { answered = rw e k; ends-is = rw e refl; head-is = rw e p; next-is = rw e q }
+  more a h n l e k p q =
+      record {
+        found-is = rw (lt-ltb at (length s) l) refl;
+        ends-is = rw e refl;
+        answered = rw (lt-ltb at (length s) l, e) k;
+        head-is = rw e p;
+        next-is = rw e q;
+      }

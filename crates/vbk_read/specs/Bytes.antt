@@ -1,5 +1,4 @@
--- Numbers in a file's bytes, little-endian, and what a read at a place hands back. s is the file's bytes, `at` a place in them.
-use mathlib.Core.Path.{_≡_}
+-- Numbers in a file's bytes, little-endian. s is the file's bytes, `at` a place in them.
 use mathlib.Core.Bool.{cond}
 use mathlib.Core.List.{List}
 use Prim.Native.Nat.{ℕ, suc, _+_, _-_, _*_}
@@ -22,8 +21,3 @@ le4 s at = getD s at 0 + 256 * getD s (at + 1) 0 + 65536 * getD s (at + 2) 0 + 1
 -- the number of a two's complement word of 32 bits
 abbrev pub signed32 : ℕ → ℤ
 signed32 u = cond (ltb u 2147483648) (pos u) (negsuc (4294967296 - suc u))
-
--- the number x was read, and the place past it is `past`
-pub record Took {A : Type 0} (x : A) (past : ℕ) (value : A) (next : ℕ) : Type 0 where
-  pub value-is : value ≡ x
-  pub next-is : next ≡ past

@@ -41,9 +41,9 @@ planeArea s = widthOf s * heightOf s
 unfoldable pub sampleAt : List ℕ → ℕ → ℕ → ℕ
 sampleAt s at k = le2 s (at + 2 * k)
 
--- the plane as the file has it
-unfoldable pub planeOf : List ℕ → List ℕ
-planeOf s = tabulate (sampleAt s HEADER_BYTES) (planeArea s)
+-- the samples as the file has them
+unfoldable pub samplesOf : List ℕ → List ℕ
+samplesOf s = tabulate (sampleAt s HEADER_BYTES) (planeArea s)
 
 -- the place of the first record
 abbrev pub firstRecord : List ℕ → ℕ

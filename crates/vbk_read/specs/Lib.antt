@@ -1,3 +1,4 @@
 pub mod Bytes
 pub mod Header
 pub mod Records
+pub mod Inner

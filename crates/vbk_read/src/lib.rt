@@ -4,9 +4,10 @@ ghost use Prim.Native.Nat.{_+_, _*_, _≤_, _<_};
 ghost use lib.ListN.{length};
 ghost use Rattle.whole.specs.Lists.{fill};
 ghost use Rattle.answers.specs.Answers.{number};
-ghost use Rattle.vbk_read.specs.Bytes.{le1, le2, le4, signed32, Took};
+ghost use Rattle.vbk_read.specs.Bytes.{le1, le2, le4, signed32};
 ghost use Rattle.vbk_read.specs.Header.{sampleAt, marked as isMarked, badArea, headerAnswer, fieldsOf, Headed};
-ghost use Rattle.vbk_read.specs.Records.{headAt, tokenAt, tokenCount, losslessAnswer, lastRecord, Recorded};
+ghost use Rattle.vbk_read.specs.Records.{headAt, noHead, tokenAt, Recorded, Opened};
+ghost use Rattle.vbk_read.specs.Inner.{Took, ending};
 use answers::Answer;
 
 // Bytes of the header before the samples.
@@ -65,26 +66,14 @@ pub struct Head {
     pub next: Cursor,
 }
 
-// A record with the answer of its own checks, whether the reading ends with it, and the place past it.
+// What a read finds at a place: whether a record is there, which with no byte left it is not; whether the reading ends; the answer of the
+// record's own checks, its head, and the place to read on from.
 pub struct Record {
-    pub answer: Answer,
+    pub found: bool,
     pub ends: bool,
+    pub answer: Answer,
     pub head: Head,
     pub next: Cursor,
-}
-
-// A byte as two.
-fn byte16(b: u8) -> u16
-    ensures { λ r. ⌜ (r ≡ b) × (r < 256) ⌝ }
-{
-    b as u16
-}
-
-// A byte as four.
-fn byte32(b: u8) -> u32
-    ensures { λ r. ⌜ (r ≡ b) × (r < 256) ⌝ }
-{
-    b as u32
 }
 
 // Four bytes, the least first.
@@ -92,10 +81,10 @@ fn word(s: &[u8], at: usize) -> u32
     requires { ⌜ at + 3 < length (now s) ⌝ }
     ensures { λ r. ⌜ r ≡ le4 (now (s .entry)) at ⌝ }
 {
-    let a = byte32(s[at]);
-    let b = byte32(s[at + 1]);
-    let c = byte32(s[at + 2]);
-    let d = byte32(s[at + 3]);
+    let a = words::byte32(s[at]);
+    let b = words::byte32(s[at + 1]);
+    let c = words::byte32(s[at + 2]);
+    let d = words::byte32(s[at + 3]);
     a + 256 * b + 65536 * c + 16777216 * d
 }
 
@@ -108,13 +97,6 @@ fn signed(u: u32) -> i32
     }
     let v = (u as i64) - 4294967296;
     v as i32
-}
-
-// A token as the calls take it.
-fn long(v: i32) -> i64
-    ensures { λ r. ⌜ r ≡ v ⌝ }
-{
-    v as i64
 }
 
 impl Cursor {
@@ -136,8 +118,8 @@ impl Cursor {
         ensures { λ r. ⌜ Took (le2 (now (s .entry)) (self .at)) (self .at + 2) (r .value) (r .next .at) ⌝ }
     {
         let at = self.at;
-        let a = byte16(s[at]);
-        let b = byte16(s[at + 1]);
+        let a = words::byte16(s[at]);
+        let b = words::byte16(s[at + 1]);
         GotU16 {
             value: a + 256 * b,
             next: Cursor { at: at + 2 },
@@ -157,16 +139,16 @@ impl Cursor {
         }
     }
 
-    // The first `count` samples from here on, into the plane.
-    pub fn read_samples(self, s: &[u8], count: usize, plane: &mut [u16]) -> Cursor
-        requires { ⌜ (self .at + 2 * count ≤ length (now s)) × (count ≤ length (now plane)) ⌝ }
-        ensures { λ r. ⌜ (r .at ≡ self .at + 2 * count) × (now (plane .exit) ≡ fill count (sampleAt (now (s .entry)) (self .at)) (now (plane .entry))) ⌝ }
+    // The first `count` samples from here on, into the list.
+    pub fn read_samples(self, s: &[u8], count: usize, samples: &mut [u16]) -> Cursor
+        requires { ⌜ (self .at + 2 * count ≤ length (now s)) × (count ≤ length (now samples)) ⌝ }
+        ensures { λ r. ⌜ (r .at ≡ self .at + 2 * count) × (now (samples .exit) ≡ fill count (sampleAt (now (s .entry)) (self .at)) (now (samples .entry))) ⌝ }
     {
         let mut c = self;
         let mut k = 0;
         while k < count {
             let got = c.read_u16(s);
-            plane[k] = got.value;
+            samples[k] = got.value;
             c = got.next;
             k += 1;
         }
@@ -182,7 +164,7 @@ impl Cursor {
         let mut k = 0;
         while k < count {
             let got = c.read_i32(s);
-            tokens[k] = long(got.value);
+            tokens[k] = words::long(got.value);
             c = got.next;
             k += 1;
         }
@@ -250,7 +232,7 @@ fn read_fields(s: &[u8]) -> Fields
 }
 
 // How many samples a plane has.
-pub fn area(width: u16, height: u16) -> usize
+pub fn plane_area(width: u16, height: u16) -> usize
     ensures { λ r. ⌜ r ≡ width * height ⌝ }
 {
     (width as usize) * (height as usize)
@@ -283,10 +265,10 @@ fn header_answer(s: &[u8]) -> Answer
     if f.version != 1 {
         return Answer::Version;
     }
-    if answers::bad_depth(byte32(f.depth)) {
+    if answers::bad_depth(words::byte32(f.depth)) {
         return Answer::Depth;
     }
-    let n = area(f.width, f.height);
+    let n = plane_area(f.width, f.height);
     if bad_area(n) {
         return Answer::TooLarge;
     }
@@ -317,104 +299,95 @@ pub fn read_header(s: &[u8]) -> Header
     Header { answer, fields }
 }
 
-// n0², the number of tokens of a size number.
-pub fn token_count(size: u8) -> usize
-    requires { ⌜ size ≤ 3 ⌝ }
-    ensures { λ r. ⌜ r ≡ tokenCount size ⌝ }
+// The head of no record.
+fn no_head() -> Head
+    ensures { λ r. ⌜ r ≡ noHead ⌝ }
 {
-    match size {
-        0 => 16,
-        1 => 64,
-        2 => 256,
-        _ => 1024,
-    }
-}
-
-// The record that ends the reading has an answer and no value.
-fn ending(answer: Answer) -> Record
-    ensures { λ r. ⌜ r ≡ lastRecord answer ⌝ }
-{
-    Record {
-        answer,
-        ends: true,
-        head: Head {
-            x: 0,
-            y: 0,
-            size: 0,
-            tx_type: 0,
-            lossless: 0,
-            dc: 0,
-            ac: 0,
-            next: Cursor { at: 0 },
-        },
+    Head {
+        x: 0,
+        y: 0,
+        size: 0,
+        tx_type: 0,
+        lossless: 0,
+        dc: 0,
+        ac: 0,
         next: Cursor { at: 0 },
     }
 }
 
-// A lossless byte is 0 or 1.
-fn lossless_answer(lossless: u8) -> Answer
-    ensures { λ r. ⌜ number r ≡ losslessAnswer lossless ⌝ }
+// Where the reading ends there is no value but an answer, and what is read on from is the end of the file.
+fn ending(found: bool, answer: Answer, end: usize) -> Record
+    ensures { λ r. ⌜ r ≡ ending found answer end ⌝ }
 {
-    if 1 < lossless {
-        return Answer::LosslessByte;
+    Record {
+        found,
+        ends: true,
+        answer,
+        head: no_head(),
+        next: Cursor { at: end },
     }
-    Answer::Done
 }
 
-// The record at a place: its checks in the file's own order, its head and the place past it.
+// The record at a place: its checks in the file's own order, its head and the place to read on from.
 pub fn record_at(s: &[u8], at: usize) -> Record
     ensures { λ r. ⌜ Recorded (now (s .entry)) at r ⌝ }
 {
-    if s.len() < at {
-        return ending(Answer::CutShort);
+    let end = s.len();
+    if end <= at {
+        return ending(false, Answer::Done, end);
     }
-    if s.len() - at < HEAD_BYTES {
-        return ending(Answer::CutShort);
+    if end - at < HEAD_BYTES {
+        return ending(true, Answer::CutShort, end);
     }
     let c = Cursor { at };
     let head = c.read_head(s);
     if 3 < head.size {
-        return ending(Answer::Size);
+        return ending(true, Answer::Size, end);
     }
-    let n = 4 * token_count(head.size);
+    let n = 4 * answers::area(head.size as u32 + 2);
     let from = at + HEAD_BYTES;
-    if s.len() - from < n {
-        return ending(Answer::CutShort);
+    if end - from < n {
+        return ending(true, Answer::CutShort, end);
     }
-    let answer = lossless_answer(head.lossless);
+    let next = Cursor { at: from + n };
+    if 1 < head.lossless {
+        return Record {
+            found: true,
+            ends: false,
+            answer: Answer::LosslessByte,
+            head: no_head(),
+            next,
+        };
+    }
     Record {
-        answer,
+        found: true,
         ends: false,
+        answer: Answer::Done,
         head,
-        next: Cursor { at: from + n },
+        next,
     }
 }
 
-// The lent file and the place in it, kept together.
+// The lent file, a place in it, and the record there, kept together.
 pub struct Reader<'a> {
     pub file: &'a [u8],
     pub at: usize,
+    pub record: Record,
+}
+
+// A reader of the file at a place.
+pub fn open<'a>(file: &'a [u8], at: usize) -> Reader<'a>
+    ensures { λ r. ⌜ Opened (file .entry) at r ⌝ }
+{
+    let record = record_at(file, at);
+    Reader { file, at, record }
 }
 
 impl<'a> Reader<'a> {
-    // The record at the reader's place; its `next` is the place to read on from.
-    pub fn next(self) -> Record
-        ensures { λ r. ⌜ Recorded (now (self .entry .file)) (self .entry .at) r ⌝ }
+    // The reader moved on, past its record.
+    pub fn next(self) -> Reader<'a>
+        ensures { λ r. ⌜ Opened (self .entry .file) (self .entry .record .next .at) r ⌝ }
     {
-        record_at(self.file, self.at)
+        open(self.file, self.record.next.at)
     }
-}
-
-// A reader of the file from a place on.
-pub fn open<'a>(file: &'a [u8], at: usize) -> Reader<'a>
-    ensures { λ r. ⌜ (r .file ≡ file .entry) × (r .at ≡ at) ⌝ }
-{
-    Reader { file, at }
-}
-
-// Opens a reader at a place and reads on: plain parameters, so that whoever calls this holds no reader.
-pub fn next_record(file: &[u8], at: usize) -> Record
-    ensures { λ r. ⌜ Recorded (now (file .entry)) at r ⌝ }
-{
-    open(file, at).next()
 }

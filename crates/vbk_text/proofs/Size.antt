@@ -45,7 +45,7 @@ unfolding numberLine
 number-short letter n h = omega (arith, length-append (word n) (10 ∷ []), word-short n h)
 
 -- what is said of a run, so that its text fits
-pub record Small (version depth width height : ℕ) (answers plane : List ℕ) (touched : ℕ) : Type 0 where
+pub record Small (version depth width height : ℕ) (answers samples : List ℕ) (touched : ℕ) : Type 0 where
   pub version-small : version < 100000
   pub depth-small : depth < 100000
   pub area-small : height * width ≤ 4096
@@ -53,10 +53,10 @@ pub record Small (version depth width height : ℕ) (answers plane : List ℕ) (
   pub height-some : 0 < height
   pub records-few : length answers ≤ 874
   pub answers-small : (i : ℕ) → i < length answers → getD answers i 0 < 100000
-  pub samples-small : (k : ℕ) → k < height * width → getD plane k 0 < 100000
+  pub samples-small : (k : ℕ) → k < height * width → getD samples k 0 < 100000
   pub touched-small : touched < 100000
 
-module _ {version depth width height : ℕ} {answers plane : List ℕ} {touched : ℕ} (s : Small version depth width height answers plane touched) where
+module _ {version depth width height : ℕ} {answers samples : List ℕ} {touched : ℕ} (s : Small version depth width height answers samples touched) where
   height-small : height ≤ 4096
   height-small = omega (arith, s .area-small, N.mul-le-mul-left height (s .width-some), N.mul-one height)
 
@@ -89,21 +89,21 @@ module _ {version depth width height : ℕ} {answers plane : List ℕ} {touched 
         word-short (getD answers i 0) (s .answers-small i h),
       )
 
-  samples-short : (r : ℕ) → r < height → length (samplesFrom plane (r * width) width) ≤ width * 6
+  samples-short : (r : ℕ) → r < height → length (samplesFrom samples (r * width) width) ≤ width * 6
   unfolding samplesFrom
   samples-short r h =
-      each-short _ 6 width (λ c l. word-short (getD plane (r * width + c) 0) (s .samples-small (r * width + c) (omega (arith, row-fits r width height h (N.le-refl (height * width))))))
+      each-short _ 6 width (λ c l. word-short (getD samples (r * width + c) 0) (s .samples-small (r * width + c) (omega (arith, row-fits r width height h (N.le-refl (height * width))))))
 
-  row-short : (r : ℕ) → r < height → length (rowLine plane width r) ≤ width * 6 + 2
+  row-short : (r : ℕ) → r < height → length (rowLine samples width r) ≤ width * 6 + 2
   unfolding rowLine
-  row-short r h = omega (arith, length-append (samplesFrom plane (r * width) width) (10 ∷ []), samples-short r h)
+  row-short r h = omega (arith, length-append (samplesFrom samples (r * width) width) (10 ∷ []), samples-short r h)
 
   -- width × height words of samples, and two bytes a row
-  rows-short : length (each height (rowLine plane width)) ≤ 32768
+  rows-short : length (each height (rowLine samples width)) ≤ 32768
   rows-short =
       omega (
         arith,
-        each-short (rowLine plane width) (width * 6 + 2) height row-short,
+        each-short (rowLine samples width) (width * 6 + 2) height row-short,
         N.mul-add height (width * 6) 2,
         sym (N.mul-assoc height width 6),
         s .area-small,
@@ -113,14 +113,14 @@ module _ {version depth width height : ℕ} {answers plane : List ℕ} {touched 
   answers-short : length (each (length answers) (answerLine answers)) ≤ 12236
   answers-short = omega (arith, each-short (answerLine answers) 14 (length answers) answer-short, s .records-few)
 
-  pub run-fits : length (text (ran version depth width height answers plane touched)) ≤ TEXT_LIMIT
+  pub run-fits : length (text (ran version depth width height answers samples touched)) ≤ TEXT_LIMIT
   unfolding text
   run-fits =
       omega (
         arith,
-        length-append (headerLine version depth width height) (each (length answers) (answerLine answers) ++ (each height (rowLine plane width) ++ numberLine 84 touched)),
-        length-append (each (length answers) (answerLine answers)) (each height (rowLine plane width) ++ numberLine 84 touched),
-        length-append (each height (rowLine plane width)) (numberLine 84 touched),
+        length-append (headerLine version depth width height) (each (length answers) (answerLine answers) ++ (each height (rowLine samples width) ++ numberLine 84 touched)),
+        length-append (each (length answers) (answerLine answers)) (each height (rowLine samples width) ++ numberLine 84 touched),
+        length-append (each height (rowLine samples width)) (numberLine 84 touched),
         header-short,
         answers-short,
         rows-short,

@@ -6,11 +6,11 @@ use Rattle.whole.specs.Steps.{each, _⨾_}
 use Rattle.vbk_text.specs.Decimal.{decimal}
 use Rattle.vbk_text.specs.Text.{ran, word, numberLine, headerLine, answerLine, samplesFrom, rowLine, text}
 
-plane : List ℕ
-plane = 102 ∷ 101 ∷ 101 ∷ 101 ∷ 101 ∷ 101 ∷ 101 ∷ 101 ∷ 101 ∷ 101 ∷ 101 ∷ 101 ∷ 101 ∷ 101 ∷ 101 ∷ 101 ∷ []
+samples : List ℕ
+samples = 102 ∷ 101 ∷ 101 ∷ 101 ∷ 101 ∷ 101 ∷ 101 ∷ 101 ∷ 101 ∷ 101 ∷ 101 ∷ 101 ∷ 101 ∷ 101 ∷ 101 ∷ 101 ∷ []
 
 printed :
-    text (ran 1 8 4 4 (0 ∷ []) plane 16)
+    text (ran 1 8 4 4 (0 ∷ []) samples 16)
     ≡ (86 ∷ 66 ∷ 75 ∷ 32 ∷ 49 ∷ 32 ∷ 56 ∷ 32 ∷ 52 ∷ 32 ∷ 52 ∷ 10 ∷ [])
     ⨾ (66 ∷ 32 ∷ 48 ∷ 32 ∷ 48 ∷ 10 ∷ [])
     ⨾ (83 ∷ 32 ∷ 49 ∷ 48 ∷ 50 ∷ 32 ∷ 49 ∷ 48 ∷ 49 ∷ 32 ∷ 49 ∷ 48 ∷ 49 ∷ 32 ∷ 49 ∷ 48 ∷ 49 ∷ 10 ∷ [])
@@ -18,5 +18,5 @@ printed :
     ⨾ (83 ∷ 32 ∷ 49 ∷ 48 ∷ 49 ∷ 32 ∷ 49 ∷ 48 ∷ 49 ∷ 32 ∷ 49 ∷ 48 ∷ 49 ∷ 32 ∷ 49 ∷ 48 ∷ 49 ∷ 10 ∷ [])
     ⨾ (83 ∷ 32 ∷ 49 ∷ 48 ∷ 49 ∷ 32 ∷ 49 ∷ 48 ∷ 49 ∷ 32 ∷ 49 ∷ 48 ∷ 49 ∷ 32 ∷ 49 ∷ 48 ∷ 49 ∷ 10 ∷ [])
     ⨾ (84 ∷ 32 ∷ 49 ∷ 54 ∷ 10 ∷ [])
-unfolding plane decimal word numberLine headerLine answerLine samplesFrom rowLine text each
+unfolding samples decimal word numberLine headerLine answerLine samplesFrom rowLine text each
 printed = refl

@@ -9,7 +9,7 @@ use native.Mathlib.Omega.{arith}
 use lib.ListN.{length, set, drop, length-append}
 use lib.Seq.{sets, length-sets, sets-eq}
 use Rattle.whole.specs.Steps.{each}
-use Rattle.vbk_text.specs.Writing.{Room, Put}
+use Rattle.vbk_text.specs.Inner.{Room, Put}
 
 sets-join : (out : List ℕ) (at : ℕ) (t u : List ℕ) → sets out at (t ++ u) ≡ sets (sets out at t) (at + length t) u
 sets-join out at [] u = rw (N.add-zero at) refl

@@ -5,10 +5,10 @@ use lib.ListN.{length, getD}
 use Rattle.whole.specs.Steps.{each, _⨾_}
 use Rattle.vbk_text.specs.Decimal.{decimal}
 
--- a header refused with a number; or the header, every record's answer in order, the plane afterwards and the touched count
+-- a header refused with a number; or the header, every record's answer in order, the plane's samples afterwards and the touched count
 pub data Outcome : Type 0 where
   refused : ℕ → Outcome
-  ran : (version depth width height : ℕ) (answers plane : List ℕ) (touched : ℕ) → Outcome
+  ran : (version depth width height : ℕ) (answers samples : List ℕ) (touched : ℕ) → Outcome
 
 -- a space and a number
 unfoldable pub word : ℕ → List ℕ
@@ -37,11 +37,11 @@ answerLine answers index = (66 ∷ []) ⨾ word index ⨾ word (getD answers ind
 
 -- the words of `count` samples from `from` on
 unfoldable pub samplesFrom : List ℕ → ℕ → ℕ → List ℕ
-samplesFrom plane from count = each count (λ c. word (getD plane (from + c) 0))
+samplesFrom samples from count = each count (λ c. word (getD samples (from + c) 0))
 
 -- `S` and the samples of row r
 unfoldable pub rowLine : List ℕ → ℕ → ℕ → List ℕ
-rowLine plane width r = (83 ∷ []) ⨾ samplesFrom plane (r * width) width ⨾ newline
+rowLine samples width r = (83 ∷ []) ⨾ samplesFrom samples (r * width) width ⨾ newline
 
 -- `T` and the touched count
 abbrev pub touchedLine : ℕ → List ℕ
@@ -50,10 +50,10 @@ touchedLine n = numberLine 84 n
 -- the text of a run: `E` alone, or `VBK`, every `B`, every `S` and `T`
 unfoldable pub text : Outcome → List ℕ
 text (refused n) = refusalLine n
-text (ran version depth width height answers plane touched) =
+text (ran version depth width height answers samples touched) =
     headerLine version depth width height
     ⨾ each (length answers) (answerLine answers)
-    ⨾ each height (rowLine plane width)
+    ⨾ each height (rowLine samples width)
     ⨾ touchedLine touched
 
 -- no run's text is longer; the code's constant of the same name is this number

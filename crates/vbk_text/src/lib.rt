@@ -6,7 +6,7 @@ ghost use lib.ListN.{length};
 ghost use Rattle.whole.specs.Steps.{each};
 ghost use Rattle.vbk_text.specs.Decimal.{decimal};
 ghost use Rattle.vbk_text.specs.Text.{word, numberLine, headerLine, answerLine, samplesFrom, rowLine, refused, ran, text};
-ghost use Rattle.vbk_text.specs.Writing.{Room, Put};
+ghost use Rattle.vbk_text.specs.Inner.{Room, Put};
 
 // No run's text is longer.
 pub const TEXT_LIMIT: usize = 45040;
@@ -74,18 +74,6 @@ fn put_header(out: &mut [u8], at: usize, version: u64, depth: u64, width: u64, h
     put_byte(out, g, b'\n')
 }
 
-fn wide16(x: u16) -> u64
-    ensures { λ r. ⌜ r ≡ x ⌝ }
-{
-    x as u64
-}
-
-fn wide8(x: u8) -> u64
-    ensures { λ r. ⌜ r ≡ x ⌝ }
-{
-    x as u64
-}
-
 // `B index answer`
 fn put_answer(out: &mut [u8], at: usize, answers: &[u8], index: usize) -> usize
     requires { ⌜ (index < length (now answers)) × Room (now out) at (answerLine (now answers) index) ⌝ }
@@ -93,7 +81,7 @@ fn put_answer(out: &mut [u8], at: usize, answers: &[u8], index: usize) -> usize
 {
     let a = put_byte(out, at, b'B');
     let b = put_word(out, a, index as u64);
-    let c = put_word(out, b, wide8(answers[index]));
+    let c = put_word(out, b, words::byte64(answers[index]));
     put_byte(out, c, b'\n')
 }
 
@@ -112,39 +100,39 @@ fn put_answers(out: &mut [u8], at: usize, answers: &[u8]) -> usize
 }
 
 // The words of `count` samples from `from` on.
-fn put_samples(out: &mut [u8], at: usize, plane: &[u16], from: usize, count: usize) -> usize
-    requires { ⌜ (from + count ≤ length (now plane)) × Room (now out) at (samplesFrom (now plane) from count) ⌝ }
-    ensures { λ r. ⌜ Put (now (out .entry)) at (samplesFrom (now (plane .entry)) from count) r (now (out .exit)) ⌝ }
+fn put_samples(out: &mut [u8], at: usize, samples: &[u16], from: usize, count: usize) -> usize
+    requires { ⌜ (from + count ≤ length (now samples)) × Room (now out) at (samplesFrom (now samples) from count) ⌝ }
+    ensures { λ r. ⌜ Put (now (out .entry)) at (samplesFrom (now (samples .entry)) from count) r (now (out .exit)) ⌝ }
 {
     let mut place = at;
     let mut c = 0;
     while c < count {
         let k = from + c;
-        place = put_word(out, place, wide16(plane[k]));
+        place = put_word(out, place, words::wide16(samples[k]));
         c += 1;
     }
     place
 }
 
 // `S` and the samples of row r
-fn put_row(out: &mut [u8], at: usize, plane: &[u16], width: usize, r: usize) -> usize
-    requires { ⌜ (r * width + width ≤ length (now plane)) × Room (now out) at (rowLine (now plane) width r) ⌝ }
-    ensures { λ q. ⌜ Put (now (out .entry)) at (rowLine (now (plane .entry)) width r) q (now (out .exit)) ⌝ }
+fn put_row(out: &mut [u8], at: usize, samples: &[u16], width: usize, r: usize) -> usize
+    requires { ⌜ (r * width + width ≤ length (now samples)) × Room (now out) at (rowLine (now samples) width r) ⌝ }
+    ensures { λ q. ⌜ Put (now (out .entry)) at (rowLine (now (samples .entry)) width r) q (now (out .exit)) ⌝ }
 {
     let a = put_byte(out, at, b'S');
-    let b = put_samples(out, a, plane, r * width, width);
+    let b = put_samples(out, a, samples, r * width, width);
     put_byte(out, b, b'\n')
 }
 
 // All `S` lines.
-fn put_rows(out: &mut [u8], at: usize, plane: &[u16], width: usize, height: usize) -> usize
-    requires { ⌜ (height * width ≤ length (now plane)) × Room (now out) at (each height (rowLine (now plane) width)) ⌝ }
-    ensures { λ q. ⌜ Put (now (out .entry)) at (each height (rowLine (now (plane .entry)) width)) q (now (out .exit)) ⌝ }
+fn put_rows(out: &mut [u8], at: usize, samples: &[u16], width: usize, height: usize) -> usize
+    requires { ⌜ (height * width ≤ length (now samples)) × Room (now out) at (each height (rowLine (now samples) width)) ⌝ }
+    ensures { λ q. ⌜ Put (now (out .entry)) at (each height (rowLine (now (samples .entry)) width)) q (now (out .exit)) ⌝ }
 {
     let mut place = at;
     let mut r = 0;
     while r < height {
-        place = put_row(out, place, plane, width, r);
+        place = put_row(out, place, samples, width, r);
         r += 1;
     }
     place
@@ -158,7 +146,7 @@ pub fn write_refusal(out: &mut [u8], n: u64) -> usize
     put_number(out, 0, b'E', n)
 }
 
-// A run's header, answers, plane and touched count, at the start of the buffer.
+// A run's header, answers, samples and touched count, at the start of the buffer.
 pub fn write_run(
     out: &mut [u8],
     version: u64,
@@ -166,14 +154,14 @@ pub fn write_run(
     width: usize,
     height: usize,
     answers: &[u8],
-    plane: &[u16],
+    samples: &[u16],
     touched: u64,
 ) -> usize
-    requires { ⌜ (height * width ≤ length (now plane)) × Room (now out) 0 (text (ran version depth width height (now answers) (now plane) touched)) ⌝ }
-    ensures { λ r. ⌜ Put (now (out .entry)) 0 (text (ran version depth width height (now (answers .entry)) (now (plane .entry)) touched)) r (now (out .exit)) ⌝ }
+    requires { ⌜ (height * width ≤ length (now samples)) × Room (now out) 0 (text (ran version depth width height (now answers) (now samples) touched)) ⌝ }
+    ensures { λ r. ⌜ Put (now (out .entry)) 0 (text (ran version depth width height (now (answers .entry)) (now (samples .entry)) touched)) r (now (out .exit)) ⌝ }
 {
     let a = put_header(out, 0, version, depth, width as u64, height as u64);
     let b = put_answers(out, a, answers);
-    let c = put_rows(out, b, plane, width, height);
+    let c = put_rows(out, b, samples, width, height);
     put_number(out, c, b'T', touched)
 }

@@ -8,7 +8,7 @@ use lib.ListN.{length, getD, length-set}
 use mir.Syntax.{w64}
 use borrow.Author.Needs.{needs}
 use Rattle.whole.proofs.Within.{back}
-use Rattle.plane.specs.Plane.{rowAfter}
+use Rattle.plane.specs.Inner.{rowAfter}
 use Rattle.plane.proofs.Row.{row-none, row-more}
 use Rattle.plane.proofs.add_row.Statement.{statement}
 use Rattle.plane.proofs.add_row.Tie as tie

@@ -9,7 +9,7 @@ use mir.Syntax.{w64}
 use mir.ValLaws.{toZ-ofZ}
 use borrow.Author.Needs.{needs}
 use Rattle.answers.specs.Sizes.{area}
-use Rattle.reconstruct.specs.Reconstruct.{Accepted}
+use Rattle.reconstruct.specs.Inner.{Accepted}
 use Rattle.reconstruct.proofs.Sizes.{dc-fine}
 use Rattle.reconstruct.proofs.Residual.{size-most, some-token, not-lossless, lossy-taken, lossy-added, flat-added, first-within}
 use Rattle.reconstruct.proofs.add_residual.Statement.{statement}
@@ -44,7 +44,7 @@ returns-2 c =
     let e = toZ-ofZ w64 (getD (a .tokens .now) 0 (pos 0)) (record { sfits = r .reconstruct-flat-arg2 .given }) in
     rw e at (c .before .before .reconstruct-flat .ensures)
     ∙ flat-added (a .plane) (a .top) (a .x) (a .y) (a .size) (a .dc-quant) (a .ac-quant) (a .tx-type) (a .lossless) (a .tokens .now) (a .samples .now) (s .pre .0) (s .pre .1)
-    (lossy (r .before .before .before .before)) (sym (r .before .before .before .only-first .ensures) ∙ r .before .before .if2 .taken)
+    (lossy (r .before .before .before .before)) (sym (r .before .before .before .only-dc .ensures) ∙ r .before .before .if2 .taken)
 
 reconstruct-n-requires : tie.Need-reconstruct-n-requires
 reconstruct-n-requires c κs =
@@ -66,7 +66,7 @@ add-residual-spec =
     (λ c κs. let s = c .before .before .before in (s .pre .0, rw (c .before .if1 .taken) at (s .pre .1)))
     (λ c. search needs)
     (λ c. rw (c .before .before .before .before .if1 .taken) (c .before .before .reconstruct-4 .ensures))
-    (λ c κs. (some (c .before .before), refl))
+    (λ c κs. (some (c .before .before), omega arith))
     (λ c. some (c .before .before .before .before .before))
     reconstruct-flat-requires
     (λ c. search needs)

@@ -8,9 +8,9 @@ use borrow.Author.Needs.{needs}
 use borrow.Author.Tests.{eq-eqb, ne-eqb, ltb-false}
 use lib.Dec.{eqb}
 use Rattle.answers.specs.Bad.{badDepth, badSize, badLossless, badTxType}
-use Rattle.answers.specs.Sizes.{side, area}
-use Rattle.reconstruct.specs.Reconstruct.{badQuantizers, badPlane, shapeOf}
-use Rattle.reconstruct.proofs.Sizes.{side-most}
+use Rattle.answers.specs.Sizes.{area}
+use Rattle.reconstruct.specs.Reconstruct.{badQuantizers, badPlane}
+use Rattle.reconstruct.specs.Inner.{shapeOf}
 use Rattle.reconstruct.proofs.check.Statement.{statement}
 use Rattle.reconstruct.proofs.check.Tie as tie
 
@@ -30,11 +30,12 @@ no4 c = sym (c .before .bad-tx-type .ensures) ∙ c .if4 .left
 no5 : (c : tie.Else5) → let a = c .before .before .before .before .before .before .before .before .before .before .args in badQuantizers (a .dc-quant) (a .ac-quant) ≡ false
 no5 c = sym (c .before .bad-quantizers .ensures) ∙ c .if5 .left
 
-square : (c : tie.After-side) → let a = c .before .before .before .before .before .before .before .before .before .before .before .args in c .side .result * c .side .result ≡ area (a .size + 2)
-square c = rw (c .side .ensures)
+-- the count of numbers
+counted : (c : tie.After-area) → let a = c .before .before .before .before .before .before .before .before .before .before .before .args in c .area .result ≡ area (a .size + 2)
+counted c = c .area .ensures .0
 
 no6 : (c : tie.Else6) → let a = c .before .before .before .before .before .before .before .before .before .before .before .before .args in not (eqb (a .tokens) (area (a .size + 2))) ≡ false
-no6 c = ap not (eq-eqb _ _ (c .if6 .left ∙ square (c .before)))
+no6 c = ap not (eq-eqb _ _ (c .if6 .left ∙ counted (c .before)))
 
 no7 : (c : tie.Else7) → let a = c .before .before .before .before .before .before .before .before .before .before .before .before .before .before .args in badPlane (a .samples) (a .plane) ≡ false
 no7 c = sym (c .before .bad-plane .ensures) ∙ c .if7 .left
@@ -64,19 +65,17 @@ returns-5 c =
     let e4 = c .before .before in let e3 = e4 .before .before in let e2 = e3 .before .before in
     rw (no1 (e2 .before .before), no2 e2, no3 e3, no4 e4, sym (c .before .bad-quantizers .ensures) ∙ c .if5 .taken)
 
-side-requires : tie.Need-side-requires
-side-requires c κs = ltb-false 3 _ (no2 (c .before .before .before .before .before .before))
+small : (c : tie.Else5) → c .before .before .before .before .before .before .before .before .before .before .args .size ≤ 3
+small c = ltb-false 3 _ (no2 (c .before .before .before .before .before .before))
 
-mul-if6 : tie.Need-mul-if6
-mul-if6 c =
-    let h : c .side .result ≤ 32 = rw (c .side .ensures) (side-most _ (ltb-false 3 _ (no2 (c .before .before .before .before .before .before .before)))) in
-    let m : c .side .result * c .side .result ≤ 32 * 32 = mul-le-mul h h in omega arith
+area-requires : tie.Need-area-requires
+area-requires c κs = (omega arith, omega (arith, small c))
 
 returns-6 : tie.Need-returns-6
 unfolding shapeOf
 returns-6 c =
     let e5 = c .before .before in let e4 = e5 .before .before in let e3 = e4 .before .before in let e2 = e3 .before .before in
-    rw (no1 (e2 .before .before), no2 e2, no3 e3, no4 e4, no5 e5, ap not (ne-eqb _ _ (rw (square (c .before)) at (c .if6 .taken))))
+    rw (no1 (e2 .before .before), no2 e2, no3 e3, no4 e4, no5 e5, ap not (ne-eqb _ _ (rw (counted (c .before)) at (c .if6 .taken))))
 
 returns-7 : tie.Need-returns-7
 unfolding shapeOf
@@ -104,8 +103,8 @@ check-spec =
     returns-4
     (λ c κs. search needs)
     returns-5
-    side-requires
-    mul-if6
+    (λ c. record { fits = omega (arith, small c) })
+    area-requires
     returns-6
     (λ c κs. search needs)
     returns-7

@@ -11,7 +11,8 @@ use Rattle.whole.proofs.Signed.{rd, rd-ok}
 use Rattle.answers.specs.Bad.{anyBeyond}
 use Rattle.answers.specs.Limits.{codeable}
 use Rattle.answers.proofs.Passed.{codeable-most}
-use Rattle.reconstruct.specs.Reconstruct.{badCoefficient, tokenAnswer}
+use Rattle.reconstruct.specs.Reconstruct.{badCoefficient}
+use Rattle.reconstruct.specs.Inner.{tokenAnswer}
 use Rattle.reconstruct.proofs.Sizes.{dc-fine, ac-fine}
 use Rattle.reconstruct.proofs.Above.{above-either, small-fine, nine, none}
 use Rattle.reconstruct.proofs.check_tokens.Statement.{statement}
@@ -21,11 +22,11 @@ use Rattle.reconstruct.proofs.check_tokens.Tie as tie
 limit : (c : tie.After-max-codeable-coef) → rd w64 (c .max-codeable-coef .result) ≡ pos (codeable (c .before .before .before .args .depth))
 limit c = rd-ok w64 {z = c .max-codeable-coef .result} (c .max-codeable-coef .ok) ∙ c .max-codeable-coef .ensures
 
-dc-reach-requires : tie.Need-dc-reach-requires
-dc-reach-requires c κs = let s = c .before .before .before in rw (limit c) (dc-fine _ _ (s .pre .1), codeable-most (s .args .depth))
+dc-bound-requires : tie.Need-dc-bound-requires
+dc-bound-requires c κs = let s = c .before .before .before in dc-fine _ _ (s .pre .1)
 
-ac-reach-requires : tie.Need-ac-reach-requires
-ac-reach-requires c κs = let s = c .before .before .before .before in rw (limit (c .before)) (ac-fine _ _ (s .pre .1), codeable-most (s .args .depth))
+ac-bound-requires : tie.Need-ac-bound-requires
+ac-bound-requires c κs = let s = c .before .before .before .before in ac-fine _ _ (s .pre .1)
 
 -- the scan is both tests
 either : (c : tie.After-some-above) → let a = c .before .before .before .before .before .before .args in
@@ -35,8 +36,8 @@ either c =
     let a = s .args in
     let m = c .before .before .before in
     c .some-above .ensures
-    ∙ rw (limit m) at (above-either (a .size) (natAbs (rd w64 (m .max-codeable-coef .result))) (c .before .before .dc-reach .result) (c .before .ac-reach .result) (a .dc-quant) (a .ac-quant) (s .pre .1)
-    (c .before .before .dc-reach .ensures) (c .before .ac-reach .ensures) (a .tokens .now))
+    ∙ rw (limit m) at (above-either (a .size) (natAbs (rd w64 (m .max-codeable-coef .result))) (c .before .before .dc-bound .result) (c .before .ac-bound .result) (a .dc-quant) (a .ac-quant) (s .pre .1)
+    (c .before .before .dc-bound .ensures) (c .before .ac-bound .ensures) (a .tokens .now))
 
 -- and the second scan the first of them
 tokens-first : (c : tie.After-any-beyond) → let a = c .before .before .before .before .before .before .before .before .args in
@@ -76,8 +77,8 @@ check-tokens-spec =
     returns
     (λ c κs. search needs)
     (λ c. rw (limit c) (tt, record { fits = omega (arith, codeable-most (c .before .before .before .args .depth)) }))
-    dc-reach-requires
-    ac-reach-requires
+    dc-bound-requires
+    ac-bound-requires
     (λ c κs. search needs)
     (λ c κs. search needs)
     returns-2

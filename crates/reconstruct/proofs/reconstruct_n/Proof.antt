@@ -18,34 +18,34 @@ use Rattle.reconstruct.proofs.reconstruct_n.Statement.{statement}
 use Rattle.reconstruct.proofs.reconstruct_n.Tie as tie
 
 -- the block after dequantizing
-coefs : (c : tie.After-dequantize) → let a = c .before .before .before .before .args in
+coefs : (c : tie.After-dequantize) → let a = c .before .before .before .args in
     c .dequantize .last .0 ≡ inFront (area (a .size + 2)) (a .size) (a .dc-quant) (a .ac-quant) (a .tokens .now)
 coefs c =
-    let s = c .before .before .before .before in
+    let s = c .before .before .before in
     let a = s .args in
-    rw (s .pre .1 .all) at (in-front (length (a .tokens .now)) (a .size) (a .dc-quant) (a .ac-quant) (a .tokens .now) _ _ (c .before .before .zeros .ensures) (c .dequantize .ensures))
+    rw (s .pre .1 .all) at (in-front (length (a .tokens .now)) (a .size) (a .dc-quant) (a .ac-quant) (a .tokens .now) _ _ refl (c .dequantize .ensures))
 
 -- and after the transform
-residuals : (c : tie.After-both-passes) → let a = c .before .before .before .before .before .before .args in
+residuals : (c : tie.After-both-passes) → let a = c .before .before .before .before .before .args in
     c .both-passes .last .0 ≡ inverse2d (a .size + 2) (a .tx-type) false (inFront (area (a .size + 2)) (a .size) (a .dc-quant) (a .ac-quant) (a .tokens .now))
 residuals c = rw (coefs (c .before .before)) at (c .both-passes .ensures)
 
 dequantize-requires : tie.Need-dequantize-requires
 dequantize-requires c κs =
-    let s = c .before .before .before in
+    let s = c .before .before in
     let a = s .args in
     let t = s .pre .1 in
     (omega (arith, t .all, area-most (a .size) (size-most (a .size) (a .dc-quant) (a .ac-quant) (a .tx-type) false (a .tokens .now) t)), omega arith, t .codeables, t .quantizers)
 
 count : tie.Need-slice-aggregate-both-passes
 count c =
-    let s = c .before .before .before .before .before in
+    let s = c .before .before .before .before in
     let a = s .args in
     rw (coefs (c .before)) (sym (block-length (a .size) (a .dc-quant) (a .ac-quant) (a .tx-type) false (a .tokens .now) (s .pre .1)))
 
 both-passes-requires : tie.Need-both-passes-requires
 both-passes-requires c κs =
-    let s = c .before .before .before .before .before in
+    let s = c .before .before .before .before in
     let a = s .args in
     let t = s .pre .1 in
     rw (coefs (c .before)) (
@@ -57,12 +57,12 @@ both-passes-requires c κs =
 
 add-back-requires : tie.Need-add-back-requires
 add-back-requires c κs =
-    let s = c .before .before .before .before .before .before .before .before .before .before in
+    let s = c .before .before .before .before .before .before .before .before .before in
     let a = s .args in
     let t = s .pre .1 in
     let h = side-most (a .size) (size-most (a .size) (a .dc-quant) (a .ac-quant) (a .tx-type) false (a .tokens .now) t) in
     let b = inFront (area (a .size + 2)) (a .size) (a .dc-quant) (a .ac-quant) (a .tokens .now) in
-    rw (residuals (c .before .before .before .before), c .before .before .side .ensures) (
+    rw (residuals (c .before .before .before .before), c .before .before .side .ensures .0) (
       s .pre .0,
       h,
       h,
@@ -73,10 +73,10 @@ add-back-requires c κs =
 returns : tie.Need-returns
 unfolding added
 returns c =
-    let s = c .before .before .before .before .before .before .before .before .before .before .before .before .before in
+    let s = c .before .before .before .before .before .before .before .before .before .before .before .before in
     let a = s .args in
     c .before .before .add-back .ensures
-    ∙ rw (residuals (c .before .before .before .before .before .before .before), c .before .before .before .before .before .side .ensures)
+    ∙ rw (residuals (c .before .before .before .before .before .before .before), c .before .before .before .before .before .side .ensures .0)
     (same-residuals (a .plane) (a .samples .now) (s .pre .0) (a .top) (a .x) (a .y) (side (a .size + 2)) _ _
     (residual-at (a .size) (a .dc-quant) (a .ac-quant) (a .tx-type) false (a .tokens .now) (s .pre .1)))
 
@@ -84,11 +84,11 @@ pub reconstruct-n-spec : {M : Type 1} → statement M
 reconstruct-n-spec =
     tie.close
     (tie.spec
-    (λ c κs. search needs)
     dequantize-requires
     count
     (λ c. search needs)
     both-passes-requires
+    (λ c. search needs)
     (λ c κs. search needs)
     (λ c. search needs)
     add-back-requires

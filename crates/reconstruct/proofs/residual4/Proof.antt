@@ -10,8 +10,8 @@ use lib.ListN.{length, getD}
 use borrow.Author.Needs.{needs}
 use Rattle.blocks.specs.Inner.{live}
 use Rattle.blocks.proofs.Live.{dead-at}
-use Rattle.reconstruct.specs.Reconstruct.{Accepted}
-use Rattle.reconstruct.proofs.Residual.{inFront, filled, filled-fine, filled-dead, made, as-lossless, as-lossy, only-first-is}
+use Rattle.reconstruct.specs.Inner.{Accepted}
+use Rattle.reconstruct.proofs.Residual.{inFront, filled, filled-fine, filled-dead, made, as-lossless, as-lossy, only-dc-is}
 use Rattle.reconstruct.proofs.residual4.Statement.{statement}
 use Rattle.reconstruct.proofs.residual4.Tie as tie
 
@@ -42,8 +42,7 @@ dead4 c k h l = go (decLt k 8)
 only : (c : tie.Then4) → let a = c .before .before .before .args in (a .tx-type ≡ 0) × (live 1 15 (a .tokens .now) ≡ false)
 only c =
     let s = c .before .before .before in
-    let p = only-first-is (s .args .tx-type) (s .args .tokens .now) (sym (c .before .only-first .ensures) ∙ c .if4 .taken) in
-    (p .0, rw (taken s .all) at (p .1))
+    only-dc-is 16 (s .args .tx-type) (s .args .tokens .now) (sym (c .before .only-dc .ensures) ∙ c .if4 .taken)
 
 dead1 : (c : tie.Then4) → (k : ℕ) → 1 ≤ k → k < 16 → getD (c .before .before .before .args .tokens .now) k (pos 0) ≡ pos 0
 dead1 c k h l =
@@ -174,8 +173,8 @@ returns-5 c =
     made (a .dc-quant) (a .ac-quant) (a .tx-type) (a .lossless) (a .tokens .now) (taken s) (a .block .now) (s .pre .0) (a .tx-type) false (block5 (c .before .before)) (c .lossy4 .ensures)
     (as-lossy (a .tx-type) (a .tx-type) (a .lossless) refl (c .before .before .before .before .before .before .if1 .left))
 
-only-first-requires : tie.Need-only-first-requires
-only-first-requires c κs = (omega arith, taken (c .before) .all)
+only-dc-requires : tie.Need-only-dc-requires
+only-dc-requires c κs = (omega arith, omega (arith, taken (c .before) .all))
 
 pub residual4-spec : {M : Type 1} → statement M
 residual4-spec =
@@ -192,7 +191,7 @@ residual4-spec =
     dequantize-requires-3
     wht4-requires-3
     returns-3
-    only-first-requires
+    only-dc-requires
     dequantize-requires-4
     flat4-requires
     returns-4

@@ -11,7 +11,7 @@ use mir.Syntax.{w64}
 use mir.ValLaws.{toZ-ofZ}
 use borrow.Author.Needs.{needs}
 use borrow.Author.Tests.{lt-ltb, le-ltb}
-use Rattle.reconstruct.specs.Bound.{anyAbove}
+use Rattle.reconstruct.specs.Inner.{anyAbove}
 use Rattle.reconstruct.proofs.Above.{counted, above-none, above-hit, above-miss}
 use Rattle.reconstruct.proofs.some_above.Statement.{statement}
 use Rattle.reconstruct.proofs.some_above.Tie as tie
@@ -24,7 +24,7 @@ abbrev μ-loop : tie.MeasureT-loop
 
 -- what the turn compares
 bounded : (c : tie.Joined1 Inv-loop μ-loop) → let a = c .before .before .before .before .before .before .args in
-    c .before .before .before .bound-at .result ≡ cond (eqb (c .before .before .before .before .before .loop .k) 0) (a .dc) (a .ac)
+    c .before .before .before .bound-at .result ≡ cond (eqb (c .before .before .before .before .before .loop .k) 0) (a .dc .0) (a .ac .0)
 bounded c = c .before .before .before .bound-at .ensures
 
 seen : (c : tie.Joined1 Inv-loop μ-loop) → let a = c .before .before .before .before .before .before .args in

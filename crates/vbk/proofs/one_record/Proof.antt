@@ -1,54 +1,48 @@
-use mathlib.Core.Path.{refl, sym, ap, _∙_}
+use mathlib.Core.Path.{ap, _∙_}
 use native.Mathlib.Omega.{arith}
 use borrow.Author.Needs.{needs}
-use Rattle.vbk_read.specs.declared.Head.{Head}
+use lib.ListN.{set}
+use Prim.Native.Nat.{ℕ, _+_}
+use Rattle.vbk_read.proofs.Records.{count-most}
+use Rattle.vbk.specs.Replay.{touchedBy}
 use Rattle.vbk.specs.Filled.{reconstruction}
-use Rattle.vbk.proofs.Records.{step-ends, step-refused, step-rebuilt, whole-record}
+use Rattle.vbk.proofs.Records.{head-size, touched-size, touched-most}
 use Rattle.vbk.proofs.one_record.Statement.{statement}
 use Rattle.vbk.proofs.one_record.Tie as tie
 
+touched-by-requires : tie.Need-touched-by-requires
+touched-by-requires c κs = let s = c .before .before .before .before .before .before .before in head-size (s .args .file .now) (s .args .at) (s .pre .1)
+
+add-t15 : tie.Need-add-t15
+add-t15 c =
+    let s = c .before .before .before .before .before .before .before .before .before in
+    let t = c .before .touched-by in
+    record { fits = omega (arith, s .pre .4, t .ensures, touched-most (c .before .before .before .before .answer-record .result) (s .args .«record» .head .size), count-most (s .args .«record» .head .size) (head-size (s .args .file .now) (s .args .at) (s .pre .1))) }
+
 returns : tie.Need-returns
 returns c =
-    let a = c .before .before .before .before .before .args in
-    step-ends reconstruction (a .file .now) (a .at) (a .samples .now) (c .before .before .next-record .ensures) (c .if1 .taken) (c .before .number8 .ensures)
-
-returns-2 : tie.Need-returns-2
-returns-2 c =
-    let a = c .before .before .before .before .before .before .args in
-    step-refused reconstruction (a .file .now) (a .at) (a .samples .now) (c .before .before .before .next-record .ensures) (c .before .if1 .left) (c .before .before .number8 .ensures) (c .if2 .taken) refl
-
-rebuild-requires : tie.Need-rebuild-requires
-rebuild-requires c κs =
-    let s = c .before .before .before .before .before .before .before .before in
+    let s = c .before .before .before .before .before .before .before .before .before in
     let a = s .args in
-    let w = whole-record reconstruction (a .file .now) (a .at) (a .samples .now) (c .before .before .before .before .before .next-record .ensures) (c .before .before .before .if1 .left) in
-    (w .0, w .1, w .2, s .pre)
-
-touched-by-requires : tie.Need-touched-by-requires
-touched-by-requires c κs =
-    let q = c .before .before .before .before .before .before .before .before .before in
-    let a = q .before .before .before .args in
-    let w = whole-record reconstruction (a .file .now) (a .at) (a .samples .now) (q .next-record .ensures) (c .before .before .before .before .before .before .before .if1 .left) in
-    omega (arith, w .0, ap (λ (h : Head). h .size) (w .2))
-
-returns-3 : tie.Need-returns-3
-returns-3 c =
-    let q = c .before .before .before .before .before .before .before .before .before .before in
-    let a = q .before .before .before .args in
-    let e1 = c .before .before .before .before .before .before .before .before in
-    let e2 = c .before .before .before .before .before .before .before in
-    step-rebuilt reconstruction (a .file .now) (a .at) (a .samples .now) (q .next-record .ensures) (e1 .if1 .left) (sym (e1 .before .number8 .ensures) ∙ e2 .if2 .left) (c .before .number82 .ensures ∙ c .before .before .before .before .rebuild .ensures .0) (c .touched-by .ensures) refl (c .before .before .before .before .rebuild .ensures .1)
+    let r = c .before .before .before .before .answer-record in
+    let t = c .before .touched-by in
+    record {
+      count-is = search needs;
+      touched-is =
+          ap (λ (x : ℕ). a .tally .touched + x)
+          (t .ensures ∙ ap (λ (x : ℕ). touchedBy x (a .«record» .head .size)) (r .ensures .0) ∙ touched-size (a .file .now) (a .at) (s .pre .1) reconstruction (a .samples .now) (s .pre .2));
+      answers-are = ap (set (a .answers .now) (a .tally .count)) (r .ensures .0);
+      samples-are = r .ensures .1;
+    }
 
 pub one-record-spec : {M : Type 1} → statement M
 one-record-spec =
     tie.close
     (tie.spec
     (λ c κs. search needs)
-    (λ c κs. search needs)
-    returns
-    returns-2
-    rebuild-requires
-    (λ c κs. search needs)
-    touched-by-requires
     (λ c. search needs)
-    returns-3)
+    (λ c. search needs)
+    touched-by-requires
+    add-t15
+    (λ c. search needs)
+    (λ c. search needs)
+    returns)

@@ -14,8 +14,8 @@ slice-aggregate-write-run : tie.Need-slice-aggregate-write-run
 slice-aggregate-write-run c = let s = c .before .before .before .before .before .before .before .before .before .before .before in sym (length-take-le _ _ (s .pre .0))
 
 -- the plane's samples are there
-area-fits : (c : tie.After-write-run-arg3) → c .before .before .before .before .before .before .before .area .result ≤ length (c .before .before .before .before .before .before .before .before .before .before .before .before .args .samples .now)
-area-fits c = let s = c .before .before .before .before .before .before .before .before .before .before .before .before in rw (c .before .before .before .before .before .before .before .area .ensures) (s .pre .1)
+area-fits : (c : tie.After-write-run-arg3) → c .before .before .before .before .before .before .before .plane-area .result ≤ length (c .before .before .before .before .before .before .before .before .before .before .before .before .args .samples .now)
+area-fits c = let s = c .before .before .before .before .before .before .before .before .before .before .before .before in rw (c .before .before .before .before .before .before .before .plane-area .ensures) (s .pre .1)
 
 slice-aggregate-write-run-2 : tie.Need-slice-aggregate-write-run-2
 slice-aggregate-write-run-2 c = sym (length-take-le _ _ (area-fits c))
@@ -24,15 +24,15 @@ write-run-requires : tie.Need-write-run-requires
 write-run-requires c κs =
     let s = c .before .before .before .before .before .before .before .before .before .before .before .before in
     let a = s .args in
-    let n = c .before .before .before .before .before .before .before .area .result in (
-      rw (length-take-le n (a .samples .now) (area-fits c), c .before .before .before .before .before .before .before .area .ensures, c .before .before .before .before .long16 .ensures, c .before .before .before .long162 .ensures, N.mul-comm (a .run .fields .height) (a .run .fields .width)) (N.le-refl _),
-      room-as (a .out .now) 0 (ap text (sym (shown (a .run) (a .samples .now) (a .answers .now) (c .before .before .before .before .before .before .wide16 .ensures) (c .before .before .before .before .before .wide8 .ensures) (c .before .before .before .before .long16 .ensures) (c .before .before .before .long162 .ensures) (c .before .before .before .before .before .before .before .area .ensures)))) (s .pre .2),
+    let n = c .before .before .before .before .before .before .before .plane-area .result in (
+      rw (length-take-le n (a .samples .now) (area-fits c), c .before .before .before .before .before .before .before .plane-area .ensures, c .before .before .before .before .count16 .ensures, c .before .before .before .count162 .ensures, N.mul-comm (a .run .fields .height) (a .run .fields .width)) (N.le-refl _),
+      room-as (a .out .now) 0 (ap text (sym (shown (a .run) (a .samples .now) (a .answers .now) (c .before .before .before .before .before .before .wide16 .ensures) (c .before .before .before .before .before .byte64 .ensures) (c .before .before .before .before .count16 .ensures) (c .before .before .before .count162 .ensures) (c .before .before .before .before .before .before .before .plane-area .ensures)))) (s .pre .2),
     )
 
 returns : tie.Need-returns
 returns c =
     let a = c .before .before .before .before .before .before .before .before .before .before .before .before .before .before .before .args in
-    put-as (ap text (shown (a .run) (a .samples .now) (a .answers .now) (c .before .before .before .before .before .before .before .before .before .wide16 .ensures) (c .before .before .before .before .before .before .before .before .wide8 .ensures) (c .before .before .before .before .before .before .before .long16 .ensures) (c .before .before .before .before .before .before .long162 .ensures) (c .before .before .before .before .before .before .before .before .before .before .area .ensures))) (c .before .before .write-run .ensures)
+    put-as (ap text (shown (a .run) (a .samples .now) (a .answers .now) (c .before .before .before .before .before .before .before .before .before .wide16 .ensures) (c .before .before .before .before .before .before .before .before .byte64 .ensures) (c .before .before .before .before .before .before .before .count16 .ensures) (c .before .before .before .before .before .before .count162 .ensures) (c .before .before .before .before .before .before .before .before .before .before .plane-area .ensures))) (c .before .before .write-run .ensures)
 
 pub print-run-spec : {M : Type 1} → statement M
 print-run-spec =

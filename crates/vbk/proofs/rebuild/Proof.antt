@@ -4,7 +4,7 @@ use lib.IntN.{pos}
 use lib.Seq.{length-take-le}
 use mir.Syntax.{w32}
 use mir.Val.{toZ, ofZ}
-use Rattle.vbk_read.proofs.Words.{back32}
+use Rattle.words.proofs.Signed.{back32}
 use Rattle.vbk_read.specs.declared.Head.{Head}
 use Rattle.vbk.proofs.Tokens.{fits, bytes, fits-filled, tokens-are, answer-is, samples-are}
 use borrow.Author.Needs.{needs}
@@ -12,49 +12,49 @@ use Rattle.vbk.proofs.rebuild.Statement.{statement}
 use Rattle.vbk.proofs.rebuild.Tie as tie
 
 -- src/lib.rt:63:9
-token-count-requires : tie.Need-token-count-requires
-token-count-requires c κs =
-    let p = c .before .before .pre in omega (arith, p .0, ap (λ (h : Head). h .size) (p .2))
+area-requires : tie.Need-area-requires
+area-requires c κs =
+    let p = c .before .before .before .pre in (search needs, omega (arith, p .0, ap (λ (h : Head). h .size) (p .2)))
 
 -- src/lib.rt:66:5
 read-tokens-requires : tie.Need-read-tokens-requires
 read-tokens-requires c κs =
-    let st = c .before .before .before .before .before .before in
+    let st = c .before .before .before .before .before .before .before in
     let a = st .args in
-    let n = c .before .before .before .token-count in
+    let n = c .before .before .before .area in
     let z = c .before .before .zeros in
-    (bytes (a .file .now) (a .at) (a .head) (n .result) (st .pre .0) (st .pre .1) (st .pre .2) (n .ensures) (z .result) (z .ensures), fits (a .file .now) (a .at) (a .head) (n .result) (st .pre .0) (st .pre .1) (st .pre .2) (n .ensures) (z .result) (z .ensures))
+    (bytes (a .file .now) (a .at) (a .head) (n .result) (st .pre .0) (st .pre .1) (st .pre .2) (n .ensures .0) (z .result) (z .ensures), fits (a .file .now) (a .at) (a .head) (n .result) (st .pre .0) (st .pre .1) (st .pre .2) (n .ensures .0) (z .result) (z .ensures))
 
 -- src/lib.rt:76:9
 array-share-prefix-tokens : tie.Need-array-share-prefix-tokens
 array-share-prefix-tokens c =
-    let st = c .before .before .before .before .before .before .before .before .before .before .before .before .before .before in
+    let st = c .before .before .before .before .before .before .before .before .before .before .before .before .before .before .before in
     let a = st .args in
-    let n = c .before .before .before .before .before .before .before .before .before .before .before .token-count in
+    let n = c .before .before .before .before .before .before .before .before .before .before .before .area in
     let z = c .before .before .before .before .before .before .before .before .before .before .zeros in
     let r = c .before .before .before .before .before .before .before .read-tokens in
-    fits-filled (a .file .now) (a .at) (a .head) (n .result) (st .pre .0) (st .pre .1) (st .pre .2) (n .ensures) (z .result) (z .ensures) (r .last .1 .1 .1 .0) (r .ensures .1)
+    fits-filled (a .file .now) (a .at) (a .head) (n .result) (st .pre .0) (st .pre .1) (st .pre .2) (n .ensures .0) (z .result) (z .ensures) (r .last .1 .1 .1 .0) (r .ensures .1)
 
 -- src/lib.rt:76:9
 slice-aggregate-reconstruct-block : tie.Need-slice-aggregate-reconstruct-block
 slice-aggregate-reconstruct-block c =
-    let st = c .before .before .before .before .before .before .before .before .before .before .before .before .before .before .before in
+    let st = c .before .before .before .before .before .before .before .before .before .before .before .before .before .before .before .before in
     let a = st .args in
-    let n = c .before .before .before .before .before .before .before .before .before .before .before .before .token-count in
+    let n = c .before .before .before .before .before .before .before .before .before .before .before .before .area in
     let z = c .before .before .before .before .before .before .before .before .before .before .before .zeros in
     let r = c .before .before .before .before .before .before .before .before .read-tokens in
-    sym (length-take-le (n .result) (r .last .1 .1 .1 .0) (fits-filled (a .file .now) (a .at) (a .head) (n .result) (st .pre .0) (st .pre .1) (st .pre .2) (n .ensures) (z .result) (z .ensures) (r .last .1 .1 .1 .0) (r .ensures .1)))
+    sym (length-take-le (n .result) (r .last .1 .1 .1 .0) (fits-filled (a .file .now) (a .at) (a .head) (n .result) (st .pre .0) (st .pre .1) (st .pre .2) (n .ensures .0) (z .result) (z .ensures) (r .last .1 .1 .1 .0) (r .ensures .1)))
 
 -- src/lib.rt:59:1
 returns : tie.Need-returns
 returns c =
-    let st = c .before .before .before .before .before .before .before .before .before .before .before .before .before .before .before .before .before .before .before .before .before .before in
+    let st = c .before .before .before .before .before .before .before .before .before .before .before .before .before .before .before .before .before .before .before .before .before .before .before in
     let a = st .args in
-    let n = c .before .before .before .before .before .before .before .before .before .before .before .before .before .before .before .before .before .before .before .token-count in
+    let n = c .before .before .before .before .before .before .before .before .before .before .before .before .before .before .before .before .before .before .before .area in
     let z = c .before .before .before .before .before .before .before .before .before .before .before .before .before .before .before .before .before .before .zeros in
     let r = c .before .before .before .before .before .before .before .before .before .before .before .before .before .before .before .read-tokens in
     let e = c .before .before .reconstruct-block .ensures in
-    let t = tokens-are (a .file .now) (a .at) (a .head) (n .result) (st .pre .0) (st .pre .1) (st .pre .2) (n .ensures) (z .result) (z .ensures) (r .last .1 .1 .1 .0) (r .ensures .1) in
+    let t = tokens-are (a .file .now) (a .at) (a .head) (n .result) (st .pre .0) (st .pre .1) (st .pre .2) (n .ensures .0) (z .result) (z .ensures) (r .last .1 .1 .1 .0) (r .ensures .1) in
     let q1 = c .before .before .before .before .before .before .quantizer in
     let q2 = c .before .before .before .before .before .quantizer2 in
     let d : toZ w32 (ofZ w32 (q1 .result)) ≡ pos (a .head .dc) = back32 (q1 .result) (q1 .ok) ∙ q1 .ensures in
@@ -65,7 +65,9 @@ pub rebuild-spec : {M : Type 1} → statement M
 rebuild-spec =
     tie.close
     (tie.spec
-    token-count-requires
+    (λ c. search needs)
+    (λ c. search needs)
+    area-requires
     (λ c κs. search needs)
     (λ c. search needs)
     read-tokens-requires

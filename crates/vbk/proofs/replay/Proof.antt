@@ -36,11 +36,11 @@ done c = sym (c .before .before .read-header .ensures .answered) ∙ sym (c .bef
 fields-are : (c : tie.Else3) → c .before .before .read-header .result .fields ≡ fieldsOf (c .before .before .before .before .before .before .before .before .args .file .now)
 fields-are c = c .before .before .read-header .ensures .fields-are ∙ rw (done c)
 
-area-is : (c : tie.After-area) → c .area .result ≡ planeArea (c .before .before .before .before .before .before .before .before .before .before .args .file .now)
-area-is c = c .area .ensures ∙ ap (λ (f : Fields). f .width * f .height) (fields-are (c .before .before))
+area-is : (c : tie.After-plane-area) → c .plane-area .result ≡ planeArea (c .before .before .before .before .before .before .before .before .before .before .args .file .now)
+area-is c = c .plane-area .ensures ∙ ap (λ (f : Fields). f .width * f .height) (fields-are (c .before .before))
 
 -- the plane's samples have room
-area-fits : (c : tie.After-area) → c .area .result ≤ length (c .before .before .before .before .before .before .before .before .before .before .args .samples .now)
+area-fits : (c : tie.After-plane-area) → c .plane-area .result ≤ length (c .before .before .before .before .before .before .before .before .before .before .args .samples .now)
 area-fits c =
     let g = good (c .before .before .before .before .before .before .before .before .before .before .args .file .now) (done (c .before .before)) in
     omega (arith, area-is c, g .area-fits, c .before .before .before .before .before .before .if1 .left)
@@ -60,7 +60,7 @@ returns-4 c =
     let e3 = r .before .before in
     let e2 = e3 .before .before .before in
     let a = r .before .before .before .before .before .before .before .before .before .before .args in
-    whole (a .file .now) (a .samples .now) (a .answers .now) (e3 .before .before .read-header .result .answer) (e3 .before .before .read-header .result .fields) _ _ (r .area .result) _ _ (area-is r)
+    whole (a .file .now) (a .samples .now) (a .answers .now) (e3 .before .before .read-header .result .answer) (e3 .before .before .read-header .result .fields) _ _ (r .plane-area .result) _ _ (area-is r)
     (sym (e3 .before .code .ensures) ∙ e3 .if3 .left)
     (enough (a .file .now) (a .samples .now) (a .answers .now) (e2 .before .if1 .left) (e2 .if2 .left) ∙ done e3)
     (fields-are e3)

@@ -36,8 +36,8 @@ depth-of c = c .bad-depth .ensures ∙ ap badDepth (c .before .byte32 .ensures .
 no5 : (c : tie.Else5) → badDepth (depthOf (c .before .before .before .before .before .before .before .before .before .before .before .args .s .now)) ≡ false
 no5 c = sym (depth-of (c .before)) ∙ c .if5 .left
 
-area-is : (c : tie.After-area) → c .area .result ≡ planeArea (c .before .before .before .before .before .before .before .before .before .before .before .before .args .s .now)
-area-is c = c .area .ensures ∙ is (c .before .before .before .before .before .before) (λ (f : Fields). f .width * f .height)
+area-is : (c : tie.After-plane-area) → c .plane-area .result ≡ planeArea (c .before .before .before .before .before .before .before .before .before .before .before .before .args .s .now)
+area-is c = c .plane-area .ensures ∙ is (c .before .before .before .before .before .before) (λ (f : Fields). f .width * f .height)
 
 area-of : (c : tie.After-bad-area) → c .bad-area .result ≡ badArea (planeArea (c .before .before .before .before .before .before .before .before .before .before .before .before .before .args .s .now))
 area-of c = c .bad-area .ensures ∙ ap badArea (area-is (c .before))
@@ -76,7 +76,7 @@ returns-6 c =
     let e5 = c .before .before .before in let e4 = e5 .before .before .before in let e3 = e4 .before .before .before in let e2 = e3 .before .before in
     rw (no1 (e2 .before), no2 e2, no3 e3, no4 e4, no5 e5, sym (area-of (c .before)) ∙ c .if6 .taken)
 
-small : (c : tie.Else6) → c .before .before .area .result ≤ 4096
+small : (c : tie.Else6) → c .before .before .plane-area .result ≤ 4096
 small c = rw (area-is (c .before .before)) (area-ok _ (no6 c) .1)
 
 mul-if7 : tie.Need-mul-if7

@@ -23,7 +23,7 @@ left2 c = let a = c .before .before .before .before .before .before .before .bef
 -- what is left after call 3
 left3 : (c : tie.After-put-word2) → let a = c .before .before .before .before .before .before .before .before .before .before .before .before .before .before .args in Todo (c .put-word2 .last .0) (c .put-word2 .result) (newline) (sets (a .out .now) (a .at) (answerLine (a .answers .now) (a .index))) (a .at + length (answerLine (a .answers .now) (a .index)))
 unfolding answerLine
-left3 c = let a = c .before .before .before .before .before .before .before .before .before .before .before .before .before .before .args in todo-next (word (getD (a .answers .now) (a .index) 0)) (newline) (left2 (c .before .before .before .before .before .before)) (put-as (ap word (c .before .wide8 .ensures)) (c .put-word2 .ensures))
+left3 c = let a = c .before .before .before .before .before .before .before .before .before .before .before .before .before .before .args in todo-next (word (getD (a .answers .now) (a .index) 0)) (newline) (left2 (c .before .before .before .before .before .before)) (put-as (ap word (c .before .byte64 .ensures)) (c .put-word2 .ensures))
 
 put-byte-requires : tie.Need-put-byte-requires
 unfolding answerLine
@@ -38,7 +38,7 @@ unfolding answerLine
 put-word-requires-2 c κs =
     let a = c .before .before .before .before .before .before .before .before .before .before .before .before .before .args in
     let d = c .before .before .before .before .before .put-word in
-    room-as (d .last .0) (d .result) (ap word (sym (c .wide8 .ensures))) (todo-room (word (getD (a .answers .now) (a .index) 0)) (newline) (left2 (c .before .before .before .before .before)))
+    room-as (d .last .0) (d .result) (ap word (sym (c .byte64 .ensures))) (todo-room (word (getD (a .answers .now) (a .index) 0)) (newline) (left2 (c .before .before .before .before .before)))
 
 put-byte-requires-2 : tie.Need-put-byte-requires-2
 unfolding answerLine

@@ -11,22 +11,22 @@ use Rattle.vbk_text.proofs.put_row.Statement.{statement}
 use Rattle.vbk_text.proofs.put_row.Tie as tie
 
 -- what is left after call 1
-left1 : (c : tie.After-put-byte) → let a = c .before .before .before .before .args in Todo (c .put-byte .last .0) (c .put-byte .result) (samplesFrom (a .plane .now) (a .r * a .width) (a .width) ⨾ newline) (sets (a .out .now) (a .at) (rowLine (a .plane .now) (a .width) (a .r))) (a .at + length (rowLine (a .plane .now) (a .width) (a .r)))
+left1 : (c : tie.After-put-byte) → let a = c .before .before .before .before .args in Todo (c .put-byte .last .0) (c .put-byte .result) (samplesFrom (a .samples .now) (a .r * a .width) (a .width) ⨾ newline) (sets (a .out .now) (a .at) (rowLine (a .samples .now) (a .width) (a .r))) (a .at + length (rowLine (a .samples .now) (a .width) (a .r)))
 unfolding rowLine
-left1 c = let a = c .before .before .before .before .args in todo-next (83 ∷ []) (samplesFrom (a .plane .now) (a .r * a .width) (a .width) ⨾ newline) (todo-all (a .out .now) (a .at) (rowLine (a .plane .now) (a .width) (a .r)) (c .before .before .before .before .pre .1)) (c .put-byte .ensures)
+left1 c = let a = c .before .before .before .before .args in todo-next (83 ∷ []) (samplesFrom (a .samples .now) (a .r * a .width) (a .width) ⨾ newline) (todo-all (a .out .now) (a .at) (rowLine (a .samples .now) (a .width) (a .r)) (c .before .before .before .before .pre .1)) (c .put-byte .ensures)
 
 -- what is left after call 2
-left2 : (c : tie.After-put-samples) → let a = c .before .before .before .before .before .before .before .before .args in Todo (c .put-samples .last .0) (c .put-samples .result) (newline) (sets (a .out .now) (a .at) (rowLine (a .plane .now) (a .width) (a .r))) (a .at + length (rowLine (a .plane .now) (a .width) (a .r)))
+left2 : (c : tie.After-put-samples) → let a = c .before .before .before .before .before .before .before .before .args in Todo (c .put-samples .last .0) (c .put-samples .result) (newline) (sets (a .out .now) (a .at) (rowLine (a .samples .now) (a .width) (a .r))) (a .at + length (rowLine (a .samples .now) (a .width) (a .r)))
 unfolding rowLine
-left2 c = let a = c .before .before .before .before .before .before .before .before .args in todo-next (samplesFrom (a .plane .now) (a .r * a .width) (a .width)) (newline) (left1 (c .before .before .before .before)) (c .put-samples .ensures)
+left2 c = let a = c .before .before .before .before .before .before .before .before .args in todo-next (samplesFrom (a .samples .now) (a .r * a .width) (a .width)) (newline) (left1 (c .before .before .before .before)) (c .put-samples .ensures)
 
 put-byte-requires : tie.Need-put-byte-requires
 unfolding rowLine
-put-byte-requires c κs = let a = c .before .before .before .args in todo-room (83 ∷ []) (samplesFrom (a .plane .now) (a .r * a .width) (a .width) ⨾ newline) (todo-all (a .out .now) (a .at) (rowLine (a .plane .now) (a .width) (a .r)) (c .before .before .before .pre .1))
+put-byte-requires c κs = let a = c .before .before .before .args in todo-room (83 ∷ []) (samplesFrom (a .samples .now) (a .r * a .width) (a .width) ⨾ newline) (todo-all (a .out .now) (a .at) (rowLine (a .samples .now) (a .width) (a .r)) (c .before .before .before .pre .1))
 
 put-samples-requires : tie.Need-put-samples-requires
 unfolding rowLine
-put-samples-requires c κs = let a = c .before .before .before .before .before .before .before .args in (omega arith, todo-room (samplesFrom (a .plane .now) (a .r * a .width) (a .width)) (newline) (left1 (c .before .before .before)))
+put-samples-requires c κs = let a = c .before .before .before .before .before .before .before .args in (omega arith, todo-room (samplesFrom (a .samples .now) (a .r * a .width) (a .width)) (newline) (left1 (c .before .before .before)))
 
 put-byte-requires-2 : tie.Need-put-byte-requires-2
 unfolding rowLine

@@ -6,14 +6,14 @@ use Rattle.vbk_text.proofs.put_rows.Statement.{statement}
 use Rattle.vbk_text.proofs.put_rows.Tie as tie
 
 abbrev Inv-loop : tie.InvT-loop
-Inv-loop out₀ at plane width height place₀ r₀ out place r = Pieces out₀ place₀ height (rowLine plane width) r out place
+Inv-loop out₀ at samples width height place₀ r₀ out place r = Pieces out₀ place₀ height (rowLine samples width) r out place
 
 abbrev μ-loop : tie.MeasureT-loop
-μ-loop out₀ at plane width height place₀ r₀ out place r = height - r
+μ-loop out₀ at samples width height place₀ r₀ out place r = height - r
 
 loop-holds : tie.Need-loop-holds Inv-loop μ-loop
 loop-holds c =
-    let a = c .before .before .args in pieces-none (a .out .now) (a .at) (a .height) (rowLine (a .plane .now) (a .width)) (c .before .before .pre .1)
+    let a = c .before .before .args in pieces-none (a .out .now) (a .at) (a .height) (rowLine (a .samples .now) (a .width)) (c .before .before .pre .1)
 
 put-row-requires : tie.Need-put-row-requires Inv-loop μ-loop
 put-row-requires c κs =

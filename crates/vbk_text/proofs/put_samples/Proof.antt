@@ -8,16 +8,16 @@ use Rattle.vbk_text.proofs.put_samples.Statement.{statement}
 use Rattle.vbk_text.proofs.put_samples.Tie as tie
 
 abbrev Inv-loop : tie.InvT-loop
-Inv-loop out₀ at plane from count place₀ c₀ out place c = Pieces out₀ place₀ count (λ k. word (getD plane (from + k) 0)) c out place
+Inv-loop out₀ at samples from count place₀ c₀ out place c = Pieces out₀ place₀ count (λ k. word (getD samples (from + k) 0)) c out place
 
 abbrev μ-loop : tie.MeasureT-loop
-μ-loop out₀ at plane from count place₀ c₀ out place c = count - c
+μ-loop out₀ at samples from count place₀ c₀ out place c = count - c
 
 loop-holds : tie.Need-loop-holds Inv-loop μ-loop
 unfolding samplesFrom
 loop-holds c =
     let a = c .before .before .args in
-    pieces-none (a .out .now) (a .at) (a .count) (λ k. word (getD (a .plane .now) (a .from + k) 0)) (c .before .before .pre .1)
+    pieces-none (a .out .now) (a .at) (a .count) (λ k. word (getD (a .samples .now) (a .from + k) 0)) (c .before .before .pre .1)
 
 put-word-requires : tie.Need-put-word-requires Inv-loop μ-loop
 put-word-requires c κs =

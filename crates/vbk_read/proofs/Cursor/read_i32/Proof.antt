@@ -1,7 +1,7 @@
 use mathlib.Core.Path.{ap, _∙_}
 use borrow.Author.Needs.{needs}
 use Rattle.vbk_read.specs.Bytes.{signed32}
-use Rattle.vbk_read.proofs.Words.{back32}
+use Rattle.words.proofs.Signed.{back32}
 use Rattle.vbk_read.proofs.Cursor.read_i32.Statement.{statement}
 use Rattle.vbk_read.proofs.Cursor.read_i32.Tie as tie
 

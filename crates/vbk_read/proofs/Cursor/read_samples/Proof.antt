@@ -11,11 +11,11 @@ use Rattle.vbk_read.proofs.Cursor.read_samples.Statement.{statement}
 use Rattle.vbk_read.proofs.Cursor.read_samples.Tie as tie
 
 abbrev Inv-loop : tie.InvT-loop
-Inv-loop s count plane₀ c₀ k₀ plane c k =
-    (k ≤ count) × (c .at ≡ c₀ .at + 2 * k) × (length plane ≡ length plane₀) × (plane ≡ fill k (sampleAt s (c₀ .at)) plane₀)
+Inv-loop s count samples₀ c₀ k₀ samples c k =
+    (k ≤ count) × (c .at ≡ c₀ .at + 2 * k) × (length samples ≡ length samples₀) × (samples ≡ fill k (sampleAt s (c₀ .at)) samples₀)
 
 abbrev μ-loop : tie.MeasureT-loop
-μ-loop s count plane₀ c₀ k₀ plane c k = count - k
+μ-loop s count samples₀ c₀ k₀ samples c k = count - k
 
 loop-holds : tie.Need-loop-holds Inv-loop μ-loop
 loop-holds c = (search needs, search needs, refl, fill-none _ _)
@@ -26,7 +26,7 @@ loop-again c =
     let a = c .before .before .before .before .before .before .args in
     let l = c .before .before .before .loop in
     let e : c .before .read-u16 .result .value ≡ le2 (a .s .now) (a .self .at + 2 * l .k) = c .before .read-u16 .ensures .value-is ∙ ap (le2 (a .s .now)) (l .inv .1) in
-    (search needs, omega (arith, l .inv .1, c .before .read-u16 .ensures .next-is), search needs, fill-more _ _ (l .k) (l .inv .3) (ap (set (l .plane) (l .k)) e))
+    (search needs, omega (arith, l .inv .1, c .before .read-u16 .ensures .next-is), search needs, fill-more _ _ (l .k) (l .inv .3) (ap (set (l .samples) (l .k)) e))
 
 returns : tie.Need-returns Inv-loop μ-loop
 returns c =

@@ -10,7 +10,7 @@ use Rattle.whole.specs.Lists.{fill}
 use Rattle.whole.proofs.Lists.{fill-none, fill-more, fill-done}
 use Rattle.vbk_read.specs.Bytes.{le4, signed32}
 use Rattle.vbk_read.specs.Records.{tokenAt}
-use Rattle.vbk_read.proofs.Words.{back32}
+use Rattle.words.proofs.Signed.{back32}
 use Rattle.vbk_read.proofs.Cursor.read_tokens.Statement.{statement}
 use Rattle.vbk_read.proofs.Cursor.read_tokens.Tie as tie
 
