@@ -4,7 +4,7 @@ import struct
 import subprocess
 import sys
 
-ROOT = os.path.dirname(os.path.dirname(os.path.abspath(__file__)))
+ROOT = os.path.dirname(os.path.dirname(os.path.realpath(__file__)))
 
 
 def read_meanings():
@@ -144,12 +144,23 @@ def program():
 
 
 def words(usage, least, most):
-    """The words of the command; where there are too few or too many, or they ask for help, how the tool is used, and status 2."""
+    """The words of the command; where there are too few or too many, or one is an option, how the tool is used, and status 2."""
     given = sys.argv[1:]
-    if not least <= len(given) <= most or "-h" in given or "--help" in given:
+    if "-h" in given or "--help" in given:
+        print(usage)
+        sys.exit(0)
+    if not least <= len(given) <= most or any(word.startswith("-") for word in given):
         print(usage, file=sys.stderr)
         sys.exit(2)
     return given
+
+
+def number(word, name):
+    """A word that is a number, 0 or more."""
+    if not (word.isascii() and word.isdigit()):
+        print("%s: %s is a number, not %r" % (os.path.basename(sys.argv[0]), name, word), file=sys.stderr)
+        sys.exit(2)
+    return int(word)
 
 
 def guarded(main):

@@ -14,6 +14,7 @@ mod reconstruct;
 mod ask;
 mod cases;
 mod compare;
+mod digest;
 mod files;
 mod line;
 #[cfg(linked)]
@@ -30,6 +31,7 @@ calls check [KIND]      read calls with outcomes, ask again, print the count of 
 calls gen SEED COUNT    print the systematic calls and COUNT random ones, with their outcomes
 calls files SEED COUNT DIR   write the systematic VBK files and COUNT random ones, each with its expected output
 calls lists SEED        print the fixed list
+calls digest SEED COUNT print the digest of COUNT calls of each kind
 calls compare SEED COUNT DIR SIDE..   generated cases to each side; what is found goes to DIR
 calls list FILE DIR SIDE..            a list as it stands to each side
 calls linked SEED COUNT DIR [KIND]    generated cases to our library in this process (only where it is linked: target/oracle/*/linked)
@@ -118,8 +120,18 @@ fn check(fault: Option<u32>) {
     }
 }
 
+/// Ends with the usage.
+fn misused() -> ! {
+    eprintln!("{USAGE}");
+    std::process::exit(2);
+}
+
+fn word(args: &[String], i: usize) -> &str {
+    args.get(i).unwrap_or_else(|| misused())
+}
+
 fn number(args: &[String], i: usize) -> u64 {
-    args.get(i).and_then(|a| a.parse().ok()).unwrap_or_else(|| panic!("{USAGE}"))
+    word(args, i).parse().unwrap_or_else(|_| misused())
 }
 
 /// The kind to be wrong on, if one is named.
@@ -142,7 +154,7 @@ fn main() {
             }
         }
         Some("files") => {
-            let dir = std::path::Path::new(&args[3]);
+            let dir = std::path::Path::new(word(&args, 3));
             std::fs::create_dir_all(dir).expect("the folder");
             let mut k = 0;
             compare::every_file(number(&args, 1), number(&args, 2), &mut |f| {
@@ -153,13 +165,14 @@ fn main() {
             println!("{k} files");
         }
         Some("lists") => lists::write_all(number(&args, 1), &mut BufWriter::new(std::io::stdout())),
-        Some("list") => std::process::exit(compare::run_list(&args[1], &args[2], &args[3..])),
-        Some("compare") => std::process::exit(compare::run(number(&args, 1), number(&args, 2), &args[3], &args[4..])),
-        #[cfg(linked)]
-        Some("linked") => std::process::exit(linked::run(number(&args, 1), number(&args, 2), &args[3], kind(&args, 4))),
-        _ => {
-            eprintln!("{USAGE}");
-            std::process::exit(2);
+        Some("digest") => digest::print(number(&args, 1), number(&args, 2)),
+        Some("list") => std::process::exit(compare::run_list(word(&args, 1), word(&args, 2), &args[3..])),
+        Some("compare") => {
+            let (seed, count, dir) = (number(&args, 1), number(&args, 2), word(&args, 3));
+            std::process::exit(compare::run(seed, count, dir, &args[4..]))
         }
+        #[cfg(linked)]
+        Some("linked") => std::process::exit(linked::run(number(&args, 1), number(&args, 2), word(&args, 3), kind(&args, 4))),
+        _ => misused(),
     }
 }

@@ -3,12 +3,25 @@
 use crate::line::{self, After, Call, Outcome};
 use crate::rng::Rng;
 use crate::{Tally, ask, cases, files, vbk};
-use std::io::{Read, Write};
+use std::io::{IsTerminal, Read, Write};
 use std::process::{Command, Stdio};
 
 const BATCH_LINES: usize = 4_000;
 const BATCH_BYTES: usize = 8 << 20;
 const SMALLER_ROUNDS: usize = 200;
+
+/// How far it is, where somebody looks on: nothing where standard error is no terminal.
+pub fn progress(words: std::fmt::Arguments) {
+    if std::io::stderr().is_terminal() {
+        eprint!("\r{words}");
+    }
+}
+
+pub fn progress_end() {
+    if std::io::stderr().is_terminal() {
+        eprintln!();
+    }
+}
 
 struct Side {
     name: String,
@@ -541,13 +554,13 @@ pub fn run(seed: u64, count: u64, dir: &str, args: &[String]) -> i32 {
                     }
                     let first = got.iter().filter(|t| t.differ > 0).map(|t| t.first).min();
                     if let Some(first) = first {
-                        eprintln!();
+                        progress_end();
                         report(side, batch.line(first), dir);
                         *stopped = true;
                     }
                 }
                 Err(e) => {
-                    eprintln!();
+                    progress_end();
                     println!("{}: {e}", side.name);
                     let _ = std::fs::write(format!("{dir}/batch.txt"), &batch.text);
                     println!("  the lines are in {dir}/batch.txt");
@@ -556,7 +569,7 @@ pub fn run(seed: u64, count: u64, dir: &str, args: &[String]) -> i32 {
             }
         }
         *sent += batch.starts.len() as u64;
-        eprint!("\r{sent} calls, {} s ", began.elapsed().as_secs());
+        progress(format_args!("{sent} calls, {} s ", began.elapsed().as_secs()));
         *batch = Batch::new();
     };
     crate::every_case(seed, count, &mut |call| {
@@ -573,7 +586,7 @@ pub fn run(seed: u64, count: u64, dir: &str, args: &[String]) -> i32 {
     if !stopped && !batch.starts.is_empty() {
         send(&mut batch, &mut sent, &mut stopped);
     }
-    eprintln!();
+    progress_end();
     for side in &call_sides {
         println!("{}:", side.name);
         for (s, t) in line::SHAPES.iter().zip(&side.tallies) {
@@ -601,15 +614,15 @@ pub fn run(seed: u64, count: u64, dir: &str, args: &[String]) -> i32 {
             }
             files += 1;
             if file_differs(side, &f).is_some() {
-                eprintln!();
+                progress_end();
                 report_file(side, &f, dir);
                 differ = true;
             }
             if files % 20 == 0 {
-                eprint!("\r{files} files, {} s ", began.elapsed().as_secs());
+                progress(format_args!("{files} files, {} s ", began.elapsed().as_secs()));
             }
         });
-        eprintln!();
+        progress_end();
         println!("{}: {files} VBK files compared, {} differ", side.name, u64::from(differ));
         stopped |= differ;
     }

@@ -1,7 +1,7 @@
 //! Our static library and the Rust in one process: a generated call goes to both, and every number is compared.
 //! A list is lent between margins, which must stay as they were, like every list that is only read.
 
-use crate::compare::{every_file, planted, say, say_first, simpler_file, smallest_by, spoil};
+use crate::compare::{every_file, planted, progress, progress_end, say, say_first, simpler_file, smallest_by, spoil};
 use crate::line::{self, Call, Outcome};
 use crate::rng::Rng;
 use crate::{ask, cases, files, vbk};
@@ -269,7 +269,7 @@ pub fn run(seed: u64, count: u64, dir: &str, fault: Option<u32>) -> i32 {
             *stopped = true;
         }
         if compared % 500_000 == 0 {
-            eprint!("\r{compared} calls, {} s ", began.elapsed().as_secs());
+            progress(format_args!("{compared} calls, {} s ", began.elapsed().as_secs()));
         }
     };
     let mut call = |c: Call, stopped: &mut bool| {
@@ -297,7 +297,7 @@ pub fn run(seed: u64, count: u64, dir: &str, fault: Option<u32>) -> i32 {
             }
         });
     }
-    eprintln!();
+    progress_end();
     for (kind, c) in KINDS.iter().zip(&counts) {
         let name = line::shape(*kind).expect("a kind").name;
         let done = if *kind == 26 { String::new() } else { format!(" ({} answered 0)", c.done) };

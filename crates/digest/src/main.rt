@@ -1,0 +1,102 @@
+// One number for every host: makes calls of every kind from a seed, and prints a digest of all answers and values. Standard input has
+// the seed and how many calls of each kind. oracle/harness/digest.rs makes the same calls of the Rust.
+mod coder;
+mod drivers;
+mod files;
+mod samples;
+
+use libc::STDERR_FILENO;
+use libc::STDIN_FILENO;
+use libc::STDOUT_FILENO;
+
+// Kinds of calls. A new one is added at the end.
+const KINDS: u64 = 8;
+
+// The digest after one call more.
+fn one(kind: u64, key: u64, digest: u64) -> u64 {
+    match kind {
+        0 => drivers::fast(key, digest),
+        1 => drivers::reference(key, digest),
+        2 => samples::reconstruct(key, digest),
+        3 => coder::forward_wht(key, digest),
+        4 => coder::quantize_tx(key, digest),
+        5 => coder::quantize(key, digest),
+        6 => coder::max_codeable(key, digest),
+        _ => files::run(key, digest),
+    }
+}
+
+// The digest of `count` calls of a kind.
+fn calls(kind: u64, seed: u64, count: u64) -> u64 {
+    let keys = draws::draw(draws::draw(seed, 0), kind);
+    let mut digest = kind;
+    let mut i = 0;
+    while i < count {
+        digest = one(kind, draws::draw(keys, i), digest);
+        i += 1;
+    }
+    digest
+}
+
+fn name(kind: u64) -> bool {
+    match kind {
+        0 => io::write_all(STDOUT_FILENO, b"inverse_transform_2d           "),
+        1 => io::write_all(STDOUT_FILENO, b"inverse_transform_2d_reference "),
+        2 => io::write_all(STDOUT_FILENO, b"reconstruct_block              "),
+        3 => io::write_all(STDOUT_FILENO, b"forward_wht_2d                 "),
+        4 => io::write_all(STDOUT_FILENO, b"quantize_block_tx              "),
+        5 => io::write_all(STDOUT_FILENO, b"quantize_block                 "),
+        6 => io::write_all(STDOUT_FILENO, b"max_codeable_coef              "),
+        _ => io::write_all(STDOUT_FILENO, b"replay and blockrun            "),
+    }
+}
+
+// A digest, as sixteen digits on what is left of the line.
+fn show(digest: u64) -> bool {
+    if !io::print_hex(STDOUT_FILENO, digest, 16) {
+        return false;
+    }
+    io::write_all(STDOUT_FILENO, b"\n")
+}
+
+// A line for each kind, then the one number; whether all was written.
+fn all(seed: u64, count: u64) -> bool {
+    let mut digest = draws::feed(seed, count);
+    let mut written = true;
+    let mut kind = 0;
+    while kind < KINDS {
+        let d = calls(kind, seed, count);
+        digest = draws::feed(digest, d);
+        if !name(kind) {
+            written = false;
+        }
+        if !show(d) {
+            written = false;
+        }
+        kind += 1;
+    }
+    if !io::write_all(STDOUT_FILENO, b"digest                         ") {
+        written = false;
+    }
+    if !show(digest) {
+        written = false;
+    }
+    written
+}
+
+fn main() {
+    let mut buffer = io::buffer();
+    let n = io::read_full(STDIN_FILENO, &mut buffer);
+    let seed = lines::read_first(&buffer[..n]);
+    let count = lines::read_unsigned(&buffer[..n], seed.next);
+    if count.next == lines::BROKEN {
+        io::write_all(STDERR_FILENO, b"no seed and count on standard input\n");
+        return;
+    }
+    if !all(seed.value, count.value) {
+        io::write_all(
+            STDERR_FILENO,
+            b"the digest could not be written to its end\n",
+        );
+    }
+}

@@ -1,0 +1,323 @@
+//! The digest of calls of every kind, from the Rust: the same draws as crates/draws and crates/digest make, written anew from their
+//! description (oracle/README.md), the refusals by rules.rs. One number, which every host must print.
+
+use crate::{fwd_transform, idct, intra, reconstruct, rules, vbk};
+
+const GOLDEN: u64 = 0x9e37_79b9_7f4a_7c15;
+
+fn stir(x: u64) -> u64 {
+    let (low, high) = (x & 0xffff_ffff, x >> 32);
+    (low * 0x9e37_79b1) ^ (high * 0x85eb_ca77).rotate_left(32)
+}
+
+/// Number `place` of a key.
+fn draw(key: u64, place: u64) -> u64 {
+    stir(stir(stir(key.wrapping_add(place)) ^ GOLDEN))
+}
+
+struct Digest(u64);
+
+impl Digest {
+    fn feed(&mut self, x: u64) {
+        self.0 = stir(self.0.wrapping_add(GOLDEN) ^ x);
+    }
+
+    /// A list: its length, and each number as the 64 bits that it is stored in.
+    fn list(&mut self, list: impl ExactSizeIterator<Item = i64>) {
+        self.feed(list.len() as u64);
+        list.for_each(|x| self.feed(x as u64));
+    }
+}
+
+fn number(r: u64, scale: u64, dense: u64) -> i64 {
+    if r % 256 >= dense {
+        return 0;
+    }
+    let below = [2, 16, 256, 4096, 65_536, 2_097_152, rules::COEF_LIMIT + 1, 268_435_456][scale.min(7) as usize];
+    let m = (r / 512 % below) as i64;
+    if r / 256 % 2 == 0 { -m } else { m }
+}
+
+fn density(r: u64) -> u64 {
+    [8, 64, 128, 256][(r % 4) as usize]
+}
+
+const EDGES: [i64; 16] = [
+    134_217_728,
+    -134_217_728,
+    134_217_729,
+    -134_217_729,
+    8_388_608,
+    -8_388_608,
+    8_388_609,
+    -8_388_609,
+    16_450,
+    -16_451,
+    65_602,
+    -65_603,
+    262_210,
+    -262_211,
+    i64::MAX,
+    -i64::MAX,
+];
+
+/// Numbers of one scale and density; once in eight, an edge among the first sixteen.
+fn filled(count: usize, key: u64, scale: u64) -> Vec<i64> {
+    let dense = density(draw(key, 1));
+    let mut list: Vec<i64> = (0..count as u64).map(|i| number(draw(key, 16 + i), scale, dense)).collect();
+    let r = draw(key, 2);
+    if r % 8 == 0
+        && let Some(x) = list.get_mut((r / 8 % 16) as usize)
+    {
+        *x = EDGES[(r / 128 % 16) as usize];
+    }
+    list
+}
+
+fn sample(r: u64, scale: u64) -> u16 {
+    (r % [256, 1024, 4096, 65_536][scale as usize]) as u16
+}
+
+fn depth(r: u64) -> u32 {
+    match r % 32 {
+        0 => (r / 32 % 16) as u32,
+        1 => u32::MAX,
+        _ => [8, 10, 12][(r / 32 % 3) as usize],
+    }
+}
+
+fn size(r: u64) -> u32 {
+    match r % 32 {
+        0 => (r / 32 % 8) as u32,
+        1 => u32::MAX,
+        2..=3 => 3,
+        4..=7 => 2,
+        _ => (r / 32 % 2) as u32,
+    }
+}
+
+fn tx_type(r: u64, size: u32) -> u8 {
+    match (r % 32, size) {
+        (0, _) => (r / 32) as u8,
+        (_, 3) => 0,
+        _ => (r / 32 % 4) as u8,
+    }
+}
+
+fn lossless(r: u64, size: u32) -> bool {
+    r % if size == 0 { 4 } else { 64 } == 0
+}
+
+fn quantizer(r: u64) -> i32 {
+    let up_to = |most: u64| (r / 32 % most + 1) as i32;
+    match r % 32 {
+        0 => 0,
+        1 => 32_768,
+        2 => -4,
+        3 => 32_767,
+        4..=5 => up_to(32_767),
+        6 => 4,
+        7 => 1,
+        _ => up_to(255),
+    }
+}
+
+/// The block's numbers, or once in `odd` as many as a draw has, to 1,040.
+fn lent(r: u64, odd: u64, size: u32) -> usize {
+    if r % odd == 0 {
+        return (r / odd % 1041) as usize;
+    }
+    rules::area(if size > 3 { 0 } else { size })
+}
+
+fn driver(key: u64, d: &mut Digest, fast: bool) {
+    let size = size(draw(key, 1));
+    let mut block = filled(lent(draw(key, 2), 16, size), draw(key, 5), draw(key, 6) % 8);
+    let n = if size < 4 { size + 2 } else { size - 4 };
+    let (tx_type, lossless) = (tx_type(draw(key, 3), size), lossless(draw(key, 4), size));
+    let answer = rules::driver(n, tx_type, lossless, &block);
+    match (answer, fast) {
+        (0, true) => idct::inverse_transform_2d(&mut block, n, tx_type, lossless),
+        (0, false) => idct::inverse_transform_2d_reference(&mut block, n, tx_type, lossless),
+        _ => {}
+    }
+    d.feed(answer.into());
+    d.list(block.into_iter());
+}
+
+fn block(key: u64, d: &mut Digest) {
+    let size = size(draw(key, 1));
+    let scale = |r: u64| [4, 5].get((r % 8) as usize).copied().unwrap_or(r / 8 % 4);
+    let tokens = filled(lent(draw(key, 2), 32, size), draw(key, 5), scale(draw(key, 6)));
+    let side = |r: u64| if r % 64 == 0 { 65_536 } else { r / 64 % 41 };
+    let (width, height) = (side(draw(key, 15)), side(draw(key, 16)));
+    let r = draw(key, 8);
+    let count = if r % 32 == 0 {
+        r / 32 % 1601
+    } else if width.max(height) > 40 {
+        0
+    } else {
+        width * height
+    };
+    let mut samples: Vec<u16> = (0..count).map(|i| sample(draw(draw(key, 9), i), draw(key, 10) % 4)).collect();
+    let place = |r: u64| match r % 32 {
+        0 => r / 32,
+        1 => u64::MAX,
+        _ => r / 32 % 48,
+    };
+    let c = rules::Recon {
+        x: place(draw(key, 11)),
+        y: place(draw(key, 12)),
+        size,
+        tx_type: tx_type(draw(key, 3), size),
+        lossless: lossless(draw(key, 4), size),
+        depth: depth(draw(key, 7)),
+        dc: quantizer(draw(key, 13)),
+        ac: quantizer(draw(key, 14)),
+        width,
+        height,
+        tokens: &tokens,
+        samples: samples.len(),
+    };
+    let answer = rules::reconstruct(&c);
+    if answer == 0 {
+        let mut plane = intra::Plane::new(width as usize, height as usize);
+        plane.samples_mut().copy_from_slice(&samples);
+        let (x, y) = (c.x as usize, c.y as usize);
+        reconstruct::reconstruct_block(&mut plane, x, y, size, &tokens, c.dc, c.ac, c.tx_type, c.lossless, c.depth);
+        samples.copy_from_slice(plane.samples());
+    }
+    d.feed(answer.into());
+    d.list(samples.into_iter().map(i64::from));
+}
+
+fn forward_wht(key: u64, d: &mut Digest) {
+    let r = draw(key, 2);
+    let count = if r % 16 == 0 { r / 16 % 33 } else { 16 };
+    let mut block = filled(count as usize, draw(key, 5), draw(key, 6) % 8);
+    let answer = rules::forward_wht(&block);
+    if answer == 0 {
+        fwd_transform::forward_wht_2d(&mut block);
+    }
+    d.feed(answer.into());
+    d.list(block.into_iter());
+}
+
+fn quantize(key: u64, d: &mut Digest, sized: bool) {
+    let r = draw(key, 2);
+    let count = match r % 16 {
+        0 => r / 16 % 1041,
+        1 => 1024,
+        2 => 1025,
+        _ => r / 16 % 65,
+    };
+    let mut coefs = filled(count as usize, draw(key, 5), draw(key, 6) % 8);
+    let (dc, ac) = (quantizer(draw(key, 3)), quantizer(draw(key, 4)));
+    let (size, depth) = (size(draw(key, 1)), depth(draw(key, 7)));
+    let answer = if sized { rules::quantize_block_tx(dc, ac, size, depth, &coefs) } else { rules::quantize_block(dc, ac, &coefs) };
+    match (answer, sized) {
+        (0, true) => fwd_transform::quantize_block_tx(&mut coefs, dc, ac, size, depth),
+        (0, false) => fwd_transform::quantize_block(&mut coefs, dc, ac),
+        _ => {}
+    }
+    d.feed(answer.into());
+    d.list(coefs.into_iter());
+}
+
+fn max_codeable(key: u64, d: &mut Digest) {
+    let depth = depth(draw(key, 7));
+    d.feed(if rules::good_depth(depth) { fwd_transform::max_codeable_coef(depth) as u64 } else { 0 });
+}
+
+/// Bytes of a made file, as far as its room goes.
+const ROOM: usize = 8192;
+
+fn record(file: &mut Vec<u8>, key: u64) {
+    let size = size(draw(key, 1));
+    let low = |x: u64| [x as u8, (x >> 8) as u8];
+    file.extend(low(draw(key, 2) % 20));
+    file.extend(low(draw(key, 3) % 20));
+    file.extend([size as u8, tx_type(draw(key, 4), size)]);
+    let r = draw(key, 5);
+    file.push(if r % 64 == 0 { (r / 64) as u8 } else { u8::from(lossless(draw(key, 6), size)) });
+    file.extend(low(quantizer(draw(key, 7)) as u64));
+    file.extend(low(quantizer(draw(key, 8)) as u64));
+    let tokens = draw(key, 9);
+    let (scale, dense) = (draw(tokens, 1) % 5, density(draw(tokens, 2)));
+    for i in 0..rules::area(if size > 3 { 0 } else { size }) as u64 {
+        file.extend((number(draw(tokens, 16 + i), scale, dense) as i32).to_le_bytes());
+    }
+}
+
+fn made(key: u64) -> Vec<u8> {
+    let side = |r: u64| match r % 64 {
+        0 => 0,
+        1 => 4097,
+        _ => r / 64 % 16 + 1,
+    };
+    let (width, height) = (side(draw(key, 1)), side(draw(key, 2)));
+    let mut file = b"VBK\x01\0".to_vec();
+    file.push(depth(draw(key, 3)) as u8);
+    file.extend((width as u16).to_le_bytes());
+    file.extend((height as u16).to_le_bytes());
+    let (samples, scale) = (draw(key, 4), draw(key, 5) % 4);
+    for i in 0..width % 64 * (height % 64) {
+        file.extend(sample(draw(samples, i), scale).to_le_bytes());
+    }
+    let records = draw(key, 6);
+    for i in 0..draw(key, 7) % 6 {
+        record(&mut file, draw(records, i));
+    }
+    file.truncate(ROOM);
+    // once in four a byte of the first 64 is another, once in four the file is cut
+    let r = draw(key, 8);
+    let at = (r / 4 % 64) as usize;
+    match r % 4 {
+        0 if at < file.len() => file[at] = (r / 256) as u8,
+        1 => file.truncate((r / 4 % 8192) as usize),
+        _ => {}
+    }
+    file
+}
+
+/// A run's figures, the rooms that it writes to, which begin as zeros, and its text.
+fn file(key: u64, d: &mut Digest) {
+    let run = vbk::replay(&made(key));
+    d.feed(run.header.into());
+    for x in [u64::from(run.depth), run.width.into(), run.height.into(), run.answers.len() as u64, run.touched] {
+        d.feed(x);
+    }
+    let (mut samples, mut answers) = (vec![0u16; rules::FILE_SAMPLES], vec![0u8; 874]);
+    samples[..run.samples.len()].copy_from_slice(&run.samples);
+    answers[..run.answers.len()].copy_from_slice(&run.answers);
+    d.list(samples.into_iter().map(i64::from));
+    d.list(answers.into_iter().map(i64::from));
+    d.list(vbk::text(&run).into_bytes().into_iter().map(i64::from));
+}
+
+type Kind = fn(u64, &mut Digest);
+
+/// The kinds of calls. A new one is added at the end.
+const KINDS: [(&str, Kind); 8] = [
+    ("inverse_transform_2d", |key, d| driver(key, d, true)),
+    ("inverse_transform_2d_reference", |key, d| driver(key, d, false)),
+    ("reconstruct_block", block),
+    ("forward_wht_2d", forward_wht),
+    ("quantize_block_tx", |key, d| quantize(key, d, true)),
+    ("quantize_block", |key, d| quantize(key, d, false)),
+    ("max_codeable_coef", max_codeable),
+    ("replay and blockrun", file),
+];
+
+pub fn print(seed: u64, count: u64) {
+    let mut all = Digest(seed);
+    all.feed(count);
+    for (kind, (name, call)) in KINDS.iter().enumerate() {
+        let keys = draw(draw(seed, 0), kind as u64);
+        let mut d = Digest(kind as u64);
+        (0..count).for_each(|i| call(draw(keys, i), &mut d));
+        println!("{name:30} {:016x}", d.0);
+        all.feed(d.0);
+    }
+    println!("{:30} {:016x}", "digest", all.0);
+}
