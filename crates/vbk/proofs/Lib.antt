@@ -3,3 +3,5 @@ pub mod Records
 pub mod Tokens
 pub mod Runs
 pub mod Printing
+pub mod Again
+pub mod Held

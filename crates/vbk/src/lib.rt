@@ -129,16 +129,22 @@ fn read_records(
     requires { ⌜ (fields ≡ fieldsOf (now file)) × (length (now file) ≤ FILE_LIMIT) × (12 ≤ from) × (from ≤ length (now file)) × (RECORD_LIMIT ≤ length (now answers)) ⌝ }
     ensures { λ r. ⌜ Ran (records reconstruction (now (file .entry)) (length (now (file .entry))) from (now (samples .entry))) (r .count) (r .touched) (now (answers .entry)) (now (answers .exit)) (now (samples .exit)) ⌝ }
 {
-    let mut at = from;
-    let mut record = vbk_read::record_at(file, at);
+    let mut reader = vbk_read::open(file, from);
     let mut tally = Tally {
         count: 0,
         touched: 0,
     };
-    while record.found {
-        tally = one_record(file, at, record, fields, samples, answers, tally);
-        at = record.next.at;
-        record = vbk_read::record_at(file, at);
+    while reader.record.found {
+        tally = one_record(
+            file,
+            reader.at,
+            reader.record,
+            fields,
+            samples,
+            answers,
+            tally,
+        );
+        reader = reader.next();
     }
     tally
 }
