@@ -34,6 +34,26 @@ mod ours {
         let (p, count) = (samples.as_mut_ptr(), samples.len());
         unsafe { c::bracetwill_reconstruct_block(p, count, size.0, size.1, at.0, at.1, tx_sz, tokens.as_ptr(), tokens.len(), quants.0, quants.1, tx_type, lossless, depth) }
     }
+    #[allow(clippy::too_many_arguments)]
+    pub fn reconstruct_block_report(
+        samples: &mut [u16],
+        size: (usize, usize),
+        at: (usize, usize),
+        tx_sz: u32,
+        tokens: &[i64],
+        quants: (i32, i32),
+        tx_type: u8,
+        lossless: bool,
+        depth: u32,
+        report: &mut ([u32; 44], [u64; 44]),
+    ) -> u32 {
+        let (p, count) = (samples.as_mut_ptr(), samples.len());
+        unsafe {
+            c::bracetwill_reconstruct_block_report(
+                p, count, size.0, size.1, at.0, at.1, tx_sz, tokens.as_ptr(), tokens.len(), quants.0, quants.1, tx_type, lossless, depth, &mut report.0, &mut report.1,
+            )
+        }
+    }
 }
 
 struct Rng(u64);
@@ -144,8 +164,9 @@ fn driver(rounds: usize, only: &str) {
 const SIDE: usize = 256;
 
 /// Each block at its own place. Cut: the plane has three quarters of the block's columns. Tokens within 51, quantizers 40 and 50 (lossless 4).
+/// The last two columns are the call with a report beside it.
 fn rebuild(rounds: usize, only: &str) {
-    println!("reconstruct_block\n| block   | type | density | place | Rust ns | ours ns | ours / Rust |");
+    println!("reconstruct_block\n| block   | type | density | place | Rust ns | ours ns | ours / Rust | with report ns | with / without |");
     for n in 2..=5u32 {
         let n0 = 1usize << n;
         for &(ty, lossless) in kinds(n) {
@@ -178,14 +199,27 @@ fn rebuild(rounds: usize, only: &str) {
                             ours::reconstruct_block(p.samples_mut(), size, at, sz, b, (black_box(dc), black_box(ac)), black_box(ty), black_box(lossless), black_box(8));
                         }
                     };
+                    let mut reported = || {
+                        let mut p = plane.borrow_mut();
+                        let mut report = ([0; 44], [0; 44]);
+                        for (b, &(x, y)) in tokens.chunks_exact(n0 * n0).zip(&places) {
+                            let (at, sz, b) = ((black_box(x), black_box(y)), black_box(n - 2), black_box(b));
+                            let quants = (black_box(dc), black_box(ac));
+                            ours::reconstruct_block_report(p.samples_mut(), size, at, sz, b, quants, black_box(ty), black_box(lossless), black_box(8), &mut report);
+                        }
+                        assert!(report.0.iter().sum::<u32>() as usize == tokens.len(), "a token was not counted");
+                    };
                     prepare();
                     theirs();
                     let want = plane.borrow().samples().to_vec();
                     prepare();
                     own();
                     assert!(want == plane.borrow().samples(), "the samples differ: {name}");
-                    let t = measure(rounds, count, prepare, &mut [&mut theirs, &mut own]);
-                    println!("| {name} | {:.1} | {:.1} | {:.2} |", t[0], t[1], t[1] / t[0]);
+                    prepare();
+                    reported();
+                    assert!(want == plane.borrow().samples(), "the samples with a report differ: {name}");
+                    let t = measure(rounds, count, prepare, &mut [&mut theirs, &mut own, &mut reported]);
+                    println!("| {name} | {:.1} | {:.1} | {:.2} | {:.1} | {:.2} |", t[0], t[1], t[1] / t[0], t[2], t[2] / t[1]);
                 }
             }
         }

@@ -64,7 +64,8 @@ enum bracetwill_answer {
   BRACETWILL_ANSWER_VERSION = 11,
   BRACETWILL_ANSWER_CUT_SHORT = 12,
   BRACETWILL_ANSWER_TOO_LARGE = 13,
-  BRACETWILL_ANSWER_LOSSLESS_BYTE = 14
+  BRACETWILL_ANSWER_LOSSLESS_BYTE = 14,
+  BRACETWILL_ANSWER_REPORT = 15
 };
 
 /* An answer in words, the same that every other part of the product says; never NULL. */
@@ -85,6 +86,7 @@ static inline const char *bracetwill_answer_meaning(uint32_t answer) {
   case BRACETWILL_ANSWER_CUT_SHORT: return "VBK: header, samples or a record cut short";
   case BRACETWILL_ANSWER_TOO_LARGE: return "VBK: file above 65,535 bytes, or width times height not 1 to 4,096";
   case BRACETWILL_ANSWER_LOSSLESS_BYTE: return "VBK: a record's lossless byte above 1";
+  case BRACETWILL_ANSWER_REPORT: return "the block takes the total of all counts past 4,294,967,295, or a class sum is above its count times 262,210";
   default: return "no answer has this number";
   }
 }
@@ -129,6 +131,21 @@ BRACETWILL_NODISCARD
 uint32_t bracetwill_reconstruct_block(uint16_t *samples, size_t samples_len, size_t width, size_t height, size_t x, size_t y,
                                       uint32_t tx_sz, const int64_t *tokens, size_t tokens_len, int32_t dc_quant, int32_t ac_quant,
                                       uint8_t tx_type, bool lossless, uint32_t bit_depth);
+
+/* How many classes of magnitudes there are, 0, 1, 2, 3, 4, 5 to 6, 7 to 10, 11 to 18, 19 to 34, 35 to 66, 67 and up, and how many entries each
+ * list of a report has: that of size number s and class c, counted from 0, is s * BRACETWILL_CLASSES + c. */
+#define BRACETWILL_CLASSES 11
+#define BRACETWILL_ENTRIES 44
+
+/* bracetwill_reconstruct_block with a report beside it: where it is done, each of the block's n0 * n0 tokens, also of those that the plane
+ * cuts off, adds 1 to the count and its magnitude to the sum of its size and class; nothing else of the report moves. Both lists hold
+ * BRACETWILL_ENTRIES numbers, zeros at first. Answers 0 to 9, and after them 15, of the report as it was lent: its counts and the block's
+ * tokens are more than 4294967295 in all, or one of the 44 sums is above its count times 262210. */
+BRACETWILL_NODISCARD
+uint32_t bracetwill_reconstruct_block_report(uint16_t *samples, size_t samples_len, size_t width, size_t height, size_t x, size_t y,
+                                             uint32_t tx_sz, const int64_t *tokens, size_t tokens_len, int32_t dc_quant,
+                                             int32_t ac_quant, uint8_t tx_type, bool lossless, uint32_t bit_depth,
+                                             uint32_t counts[44], uint64_t sums[44]);
 
 /* The forward WHT of 16 numbers, in place. Answers 0, 6 (not 16), 9 (beyond BRACETWILL_WHT_LIMIT). */
 BRACETWILL_NODISCARD

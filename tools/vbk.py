@@ -74,10 +74,11 @@ class Record:
 
     def __init__(self, x, y, size, kind, lossless, dc, ac):
         self.x, self.y, self.size, self.kind, self.lossless, self.dc, self.ac = x, y, size, kind, lossless, dc, ac
+        self.tokens = []
 
 
 def read_records(file):
-    """The heads of a file's records, to the one at which blockrun stops reading: a size above 3, or fewer bytes than it needs."""
+    """The records of a file, to the one at which blockrun stops reading: a size above 3, or fewer bytes than it needs."""
     _, width, height, _ = read_plane(file)
     out = []
     at = 10 + 2 * width * height
@@ -85,7 +86,10 @@ def read_records(file):
         out.append(Record(*struct.unpack_from("<HHBBBHH", file, at)))
         if out[-1].size > 3:
             break
-        at += 11 + (64 << 2 * out[-1].size)
+        count = 16 << 2 * out[-1].size
+        if at + 11 + 4 * count <= len(file):
+            out[-1].tokens = list(struct.unpack_from("<%di" % count, file, at + 11))
+        at += 11 + 4 * count
     return out
 
 

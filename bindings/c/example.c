@@ -1,4 +1,5 @@
-/* A lossless block into a plane of 100s, and back: the source that the forward WHT was given comes out of reconstruction. */
+/* A lossless block into a plane of 100s, and back: the source that the forward WHT was given comes out of reconstruction. Then the same with a
+ * report of its tokens beside it. */
 #include "bracetwill.h"
 #include <stdio.h>
 
@@ -25,6 +26,14 @@ int main(void) {
     for (int x = 0; x < 8; x++) printf("%4d", plane[y * 8 + x]);
     printf("\n");
   }
+
+  /* the same again; then a line for each class that has tokens: size number, class, how many, and the sum of their magnitudes */
+  uint32_t counts[BRACETWILL_ENTRIES] = {0};
+  uint64_t sums[BRACETWILL_ENTRIES] = {0};
+  if (refused("report", bracetwill_reconstruct_block_report(plane, 8 * 4, 8, 4, 4, 0, 0, block, 16, 4, 4, BRACETWILL_DCT_DCT, true, 8, counts, sums)))
+    return 1;
+  for (int class = 0; class < BRACETWILL_CLASSES; class++)
+    if (counts[class] != 0) printf("C 0 %d %u %u\n", class, (unsigned)counts[class], (unsigned)sums[class]);
 
   /* the same at a depth that there is not: the plane stays */
   return !refused("reconstruction", bracetwill_reconstruct_block(plane, 8 * 4, 8, 4, 4, 0, 0, block, 16, 4, 4, BRACETWILL_DCT_DCT, true, 9));

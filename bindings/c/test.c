@@ -250,6 +250,89 @@ static void reconstruct_clips(void) {
   }
 }
 
+/* A report between margins that no call may reach. */
+struct report {
+  uint32_t front, counts[BRACETWILL_ENTRIES], back;
+  uint64_t first, sums[BRACETWILL_ENTRIES], last;
+};
+static struct report report, report_before;
+
+static uint32_t reported(struct call c) {
+  copy(&report_before, &report, sizeof report);
+  return bracetwill_reconstruct_block_report(samples, c.samples_len, c.width, c.height, c.x, c.y, c.tx_sz, list, c.tokens_len, c.dc_quant,
+                                             c.ac_quant, c.tx_type, c.lossless, c.bit_depth, report.counts, report.sums);
+}
+
+static void report_of(uint32_t count, uint64_t sum) {
+  for (size_t k = 0; k < BRACETWILL_ENTRIES; k++) {
+    report.counts[k] = count;
+    report.sums[k] = sum;
+  }
+}
+
+static void report_refused(struct call c, uint32_t want, const char *what) {
+  plane_of(100);
+  equal(reported(c), want, what);
+  check(same(samples, samples_before, sizeof samples), what, -1, 0);
+  check(same(&report, &report_before, sizeof report), what, -2, 0);
+}
+
+/* Every edge of a class, at every size, counts in its own entry; the block may lie outside the plane. */
+static void report_counts(void) {
+  const int64_t least[BRACETWILL_CLASSES + 1] = {0, 1, 2, 3, 4, 5, 7, 11, 19, 35, 67, 262211};
+  for (uint32_t size = 0; size <= 3; size++)
+    for (size_t class = 0; class < BRACETWILL_CLASSES; class++)
+      for (int end = 0; end <= 1; end++) {
+        const size_t count = (size_t)16 << (2 * size), at = size * BRACETWILL_CLASSES + class, none = size * BRACETWILL_CLASSES;
+        const struct call c = {16, 4, 4, end ? 4 : 1, 0, size, count, 1, 1, 0, false, 12};
+        const int64_t token = end ? least[class + 1] - 1 : least[class];
+        plane_of(100);
+        zeros();
+        list[count - 1] = -token;
+        report_of(3, 3);
+        equal(reported(c), BRACETWILL_ANSWER_DONE, "report: done");
+        for (size_t k = 0; k < BRACETWILL_ENTRIES; k++) {
+          equal(report.counts[k], 3 + (k == at ? 1 : 0) + (k == none ? (long long)count - 1 : 0), "report: a count");
+          equal((long long)report.sums[k], 3 + (k == at ? token : 0), "report: a sum");
+        }
+        equal(report.front + report.back + (long long)(report.first + report.last), 0, "report: margins");
+      }
+}
+
+/* 15, after every number of reconstruction: the total with the block's tokens, and each sum. */
+static void report_refuses(void) {
+  const struct call good = {48, 8, 6, 1, 1, 0, 16, 4, 4, 0, false, 8};
+  struct call c = good;
+  filled(0, 0);
+  for (size_t k = 0; k < BRACETWILL_ENTRIES; k++) {
+    report_of(0, 0);
+    report.counts[k] = UINT32_MAX - 15;
+    report_refused(good, BRACETWILL_ANSWER_REPORT, "report: one past the total");
+    report.counts[k]--;
+    plane_of(100);
+    equal(reported(good), BRACETWILL_ANSWER_DONE, "report: the greatest total");
+    report_of(7, 7 * UINT64_C(262210));
+    report.sums[k]++;
+    report_refused(good, BRACETWILL_ANSWER_REPORT, "report: one past a sum");
+    report.sums[k] = UINT64_MAX;
+    report_refused(good, BRACETWILL_ANSWER_REPORT, "report: the greatest number as a sum");
+    report.sums[k] = 7 * UINT64_C(262210);
+    equal(reported(good), BRACETWILL_ANSWER_DONE, "report: every sum at its limit");
+  }
+  report_of(UINT32_MAX, 0);
+  report_refused(good, BRACETWILL_ANSWER_REPORT, "report: every count at its greatest");
+  c.tokens_len = 15;
+  report_refused(c, BRACETWILL_ANSWER_LENGTH, "report: one token short comes first");
+  c = good;
+  list[15] = 16451;
+  report_refused(c, BRACETWILL_ANSWER_TOKEN, "report: a token comes first");
+  list[15] = 16450;
+  c.ac_quant = 8160;
+  report_refused(c, BRACETWILL_ANSWER_COEFFICIENT, "report: a coefficient comes first");
+  c.bit_depth = 9;
+  report_refused(c, BRACETWILL_ANSWER_DEPTH, "report: the depth comes first");
+}
+
 /* At 32 by 32 the product is halved toward zero: token 801 at 7 is 2803 and -801 is -2803, as the driver shows. */
 static void reconstruct_halves(void) {
   for (int sign = -1; sign <= 1; sign += 2) {
@@ -533,8 +616,8 @@ static void records_answered(void) {
 }
 
 static void meanings(void) {
-  for (uint32_t k = 0; k <= BRACETWILL_ANSWER_LOSSLESS_BYTE; k++)
-    for (uint32_t j = 0; j <= BRACETWILL_ANSWER_LOSSLESS_BYTE + 1; j++) {
+  for (uint32_t k = 0; k <= BRACETWILL_ANSWER_REPORT; k++)
+    for (uint32_t j = 0; j <= BRACETWILL_ANSWER_REPORT + 1; j++) {
       const char *a = bracetwill_answer_meaning(k), *b = bracetwill_answer_meaning(j);
       const bool alike = length(a) == length(b) && same(a, b, length(a));
       check(alike == (k == j), "each number has its own meaning", k, j);
@@ -552,6 +635,8 @@ int main(void) {
   reconstruct_cut();
   reconstruct_clips();
   reconstruct_halves();
+  report_counts();
+  report_refuses();
   forward_wht();
   quantizers();
   headers_refused();

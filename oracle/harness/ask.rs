@@ -90,7 +90,7 @@ pub fn ask(c: &Call) -> Outcome {
             }
             answered(answer, block)
         }
-        22 => {
+        22 | 31 => {
             let r = rules::Recon {
                 x: a(0) as u64,
                 y: a(1) as u64,
@@ -105,9 +105,12 @@ pub fn ask(c: &Call) -> Outcome {
                 tokens: &c.lists[0],
                 samples: c.lists[1].len(),
             };
-            let answer = rules::reconstruct(&r);
+            let mut answer = rules::reconstruct(&r);
+            if answer == 0 && c.kind == 31 && rules::bad_report(r.tokens.len(), &c.lists[2], &c.lists[3]) {
+                answer = 15;
+            }
             if answer != 0 {
-                return answered(answer, c.lists[1].clone());
+                return Outcome { nums: vec![answer.into()], lists: c.lists[1..].to_vec() };
             }
             let mut plane = intra::Plane::new(r.width as usize, r.height as usize);
             for (s, v) in plane.samples_mut().iter_mut().zip(&c.lists[1]) {
@@ -115,7 +118,13 @@ pub fn ask(c: &Call) -> Outcome {
             }
             let (x, y) = (r.x as usize, r.y as usize);
             reconstruct::reconstruct_block(&mut plane, x, y, r.size, r.tokens, r.dc, r.ac, r.tx_type, r.lossless, r.depth);
-            answered(0, numbers(plane.samples().iter().copied()))
+            let mut lists = c.lists[1..].to_vec();
+            lists[0] = numbers(plane.samples().iter().copied());
+            if c.kind == 31 {
+                let (counts, sums) = lists[1..].split_at_mut(1);
+                rules::count(r.size, r.tokens, &mut counts[0], &mut sums[0]);
+            }
+            Outcome { nums: vec![0], lists }
         }
         23 => {
             let mut block = c.lists[0].clone();

@@ -445,6 +445,89 @@ fn recon(r: &mut Rng) -> Call {
     c.call()
 }
 
+/// How many entries a report has.
+const ENTRIES: usize = 44;
+/// The greatest total of a report's counts.
+const TOTAL: i64 = u32::MAX as i64;
+/// The greatest sum for each token that is counted.
+const TOKEN: i64 = 262_210;
+
+/// A block with a report beside it.
+fn reported(c: Recon, counts: Vec<i64>, sums: Vec<i64>) -> Call {
+    let mut c = c.call();
+    c.kind = 31;
+    c.lists.extend([counts, sums]);
+    c
+}
+
+/// A report that takes so many tokens more: empty, some tokens, or full to the last of them; sums from nothing to the greatest.
+fn good_report(r: &mut Rng, more: i64) -> (Vec<i64>, Vec<i64>) {
+    let mut counts: Vec<i64> = match r.below(4) {
+        0 => vec![0; ENTRIES],
+        _ => (0..ENTRIES).map(|_| if r.once_in(3) { 0 } else { r.range(0, 90_000_000) }).collect(),
+    };
+    if r.once_in(3) {
+        // exactly full afterwards
+        let k = r.below(ENTRIES as u64) as usize;
+        counts[k] += TOTAL - more - counts.iter().sum::<i64>();
+    }
+    let sums = match r.below(3) {
+        0 => vec![0; ENTRIES],
+        1 => counts.iter().map(|c| c * TOKEN).collect(),
+        _ => counts.iter().map(|c| r.range(0, c * TOKEN)).collect(),
+    };
+    (counts, sums)
+}
+
+/// A report that 15 refuses: past its total by a little or by much, or with a sum above its count × 262,210.
+fn bad_report(r: &mut Rng, more: i64) -> (Vec<i64>, Vec<i64>) {
+    let (mut counts, mut sums) = good_report(r, more);
+    let k = r.below(ENTRIES as u64) as usize;
+    match r.below(4) {
+        0 => counts[k] += TOTAL - more - counts.iter().sum::<i64>() + r.range(1, more),
+        1 => counts.iter_mut().for_each(|c| *c = TOTAL),
+        2 => sums[k] = counts[k] * TOKEN + 1,
+        _ => sums[k] = r.pick(&[counts[k] * TOKEN + 2, i64::MAX]),
+    }
+    counts[k] = counts[k].min(TOTAL);
+    (counts, sums)
+}
+
+/// The edges of the classes.
+const EDGES: [i64; 21] = [0, 1, 2, 3, 4, 5, 6, 7, 10, 11, 18, 19, 34, 35, 66, 67, 68, 16_450, 65_602, 262_209, 262_210];
+
+/// Tokens at the edges of the classes, of either sign.
+fn edges(r: &mut Rng, size: u32, depth: u32) -> Vec<i64> {
+    let most = rules::codeable(depth);
+    (0..rules::area(size))
+        .map(|_| {
+            let t = r.pick(&EDGES).min(most);
+            if r.once_in(2) { -t } else { t }
+        })
+        .collect()
+}
+
+fn report(r: &mut Rng) -> Call {
+    let mut c = good_recon(r);
+    if r.once_in(2) {
+        (c.dc, c.ac) = (4, 4);
+        c.tokens = edges(r, c.size, c.depth);
+    }
+    let more = c.tokens.len() as i64;
+    let (counts, sums) = if r.once_in(8) { bad_report(r, more) } else { good_report(r, more) };
+    reported(c, counts, sums)
+}
+
+fn refused_report(r: &mut Rng, wanted: &[u8]) -> Call {
+    let others: Vec<u8> = wanted.iter().copied().filter(|a| *a != 15).collect();
+    let mut c = if others.is_empty() { good_recon(r).call() } else { refused_recon(r, &others) };
+    let more = (c.lists[0].len() as i64).max(1);
+    let (counts, sums) = if wanted.contains(&15) { bad_report(r, more) } else { good_report(r, more) };
+    c.kind = 31;
+    c.lists.extend([counts, sums]);
+    c
+}
+
 fn refused_recon(r: &mut Rng, wanted: &[u8]) -> Call {
     let has = |a: u8| wanted.contains(&a);
     let mut c = good_recon(r);
@@ -640,13 +723,14 @@ pub fn example() -> Recon {
 // ---- the systematic part ----
 
 /// The numbers that a call can refuse with.
-pub const REFUSALS: [(u32, &[u8]); 6] = [
+pub const REFUSALS: [(u32, &[u8]); 7] = [
     (20, &[2, 3, 4, 6, 9]),
     (21, &[2, 3, 4, 6, 9]),
     (22, &[1, 2, 3, 4, 5, 6, 7, 8, 9]),
     (23, &[6, 9]),
     (24, &[1, 2, 5, 6, 9]),
     (25, &[5, 6, 9]),
+    (31, &[1, 2, 3, 4, 5, 6, 7, 8, 9, 15]),
 ];
 
 /// A call to which each of these numbers applies (3 and 4 never do together).
@@ -655,6 +739,7 @@ pub fn refused(r: &mut Rng, kind: u32, wanted: &[u8]) -> Call {
         20 | 21 => refused_driver(r, kind, wanted),
         22 => refused_recon(r, wanted),
         23 => refused_forward(r, wanted),
+        31 => refused_report(r, wanted),
         _ => refused_quantize(r, kind, wanted),
     }
 }
@@ -855,6 +940,52 @@ fn systematic_recon(r: &mut Rng, out: &mut dyn FnMut(Call)) {
     }
 }
 
+/// The report: every edge of a class at every size, the total at its limit and past it, every sum at its limit and one past it.
+fn systematic_report(r: &mut Rng, out: &mut dyn FnMut(Call)) {
+    let one = |size: u32, token: i64, depth: u32| {
+        let mut c = example();
+        (c.size, c.lossless, c.depth, c.dc, c.ac) = (size, false, depth, 1, 1);
+        c.tokens = vec![0; rules::area(size)];
+        *c.tokens.last_mut().expect("a token") = token;
+        c
+    };
+    let none = || vec![0; ENTRIES];
+    for size in 0..4 {
+        for t in EDGES.into_iter().flat_map(|t| [t, -t]) {
+            out(reported(one(size, t, 12), none(), none()));
+        }
+        let more = rules::area(size) as i64;
+        for k in 0..ENTRIES {
+            // the total, full by one entry: taken, and one past it refused
+            for past in [0, 1] {
+                let mut counts = none();
+                counts[k] = TOTAL - more + past;
+                out(reported(one(size, 3, 8), counts, none()));
+            }
+            // a sum at its limit and one past it
+            for past in [0, 1] {
+                let (mut counts, mut sums) = (none(), none());
+                counts[k] = 7;
+                sums[k] = 7 * TOKEN + past;
+                out(reported(one(size, 3, 8), counts, sums));
+            }
+            let mut sums = none();
+            sums[k] = 1;
+            out(reported(one(size, 3, 8), none(), sums));
+        }
+        // outside the plane, cut by it, and whole: every token counts
+        for (x, y) in [(0, 0), (3, 3), (4, 0), (0, u64::MAX)] {
+            let mut c = one(size, 9, 8);
+            (c.x, c.y, c.tokens) = (x, y, edges(r, size, 8));
+            out(reported(c, none(), none()));
+        }
+        out(reported(one(size, 262_211, 12), none(), none()));
+        out(reported(one(size, 16_451, 8), none(), none()));
+    }
+    // every count at its greatest
+    out(reported(one(0, 1, 8), vec![TOTAL; ENTRIES], none()));
+}
+
 fn systematic_coder(out: &mut dyn FnMut(Call)) {
     for k in 0..16 {
         for v in [1, -1, 2, -3, 5, FORWARD, -FORWARD, FORWARD + 1, -FORWARD - 1, i64::MIN] {
@@ -973,6 +1104,7 @@ pub fn systematic(r: &mut Rng, out: &mut dyn FnMut(Call)) {
     systematic_drivers(r, out);
     systematic_recon(r, out);
     systematic_coder(out);
+    systematic_report(r, out);
     for (kind, numbers) in REFUSALS {
         sets(r, numbers, 5, &mut |r, wanted| out(refused(r, kind, wanted)));
     }
@@ -1010,9 +1142,10 @@ pub fn random(r: &mut Rng) -> Call {
         52..=75 => recon(r),
         76..=79 => forward(r),
         80..=85 => quantize(r, 24),
-        86..=88 => quantize(r, 25),
-        89 => codeable(r),
-        90..=93 => file(r),
+        86..=87 => quantize(r, 25),
+        88 => codeable(r),
+        89..=91 => file(r),
+        92..=94 => report(r),
         _ => {
             let (kind, numbers) = r.pick(&REFUSALS);
             let wanted: Vec<u8> = (0..r.range(1, 3)).map(|_| r.pick(numbers)).collect();

@@ -148,7 +148,8 @@ fn run_batch(side: &Side, batch: &Batch) -> Result<Vec<Tally>, String> {
 // ---- differences on purpose ----
 
 /// A wrong outcome of one kind, for the comparison's own test. Kind 20: the last number of a type 1 or 3 block is off where place 5
-/// holds more than 2. Kind 22: the last sample is off where x is 1 and token 1 is not zero. Kind 30: the touched count is off where
+/// holds more than 2. Kind 22: the last sample is off where x is 1 and token 1 is not zero. Kind 31: a
+/// count is off where token 1 is a 7. Kind 30: the touched count is off where
 /// record 0 is done and record 1 is refused for its quantizer.
 pub fn spoil(kind: u32, call: &Call, outcome: &mut Outcome) {
     if call.kind != kind || outcome.nums[0] != 0 {
@@ -157,6 +158,7 @@ pub fn spoil(kind: u32, call: &Call, outcome: &mut Outcome) {
     let hit = match kind {
         20 => call.args[1] % 2 == 1 && call.lists[0][5] > 2,
         22 => call.args[0] == 1 && call.lists[0][1] != 0,
+        31 => call.lists[0][1].abs() == 7,
         _ => outcome.lists[0].starts_with(&[0, 5]),
     };
     if !hit {
@@ -164,6 +166,8 @@ pub fn spoil(kind: u32, call: &Call, outcome: &mut Outcome) {
     }
     if kind == 30 {
         outcome.nums[1] += 16;
+    } else if kind == 31 {
+        outcome.lists[1][5] += 1;
     } else if let Some(last) = outcome.lists[0].last_mut() {
         *last += 1;
     }
@@ -268,7 +272,7 @@ fn simpler(c: &Call) -> Vec<Call> {
             }
         }
     }
-    if c.kind == 22 && c.args[8] * c.args[9] == c.lists[1].len() as i128 {
+    if (c.kind == 22 || c.kind == 31) && c.args[8] * c.args[9] == c.lists[1].len() as i128 {
         // a smaller plane: one column or one row less, or the place moved with it
         let (w, h) = (c.args[8] as usize, c.args[9] as usize);
         if w > 0 {

@@ -145,7 +145,22 @@ fn driver(key: u64, d: &mut Digest, fast: bool) {
     d.list(block.into_iter());
 }
 
-fn block(key: u64, d: &mut Digest) {
+/// Counts below 2^26, sums that are a part of what they may be; once in four a count that leaves no room, or a sum at its limit or one past it.
+fn report(key: u64) -> (Vec<i64>, Vec<i64>) {
+    let drawn = |i: u64| draw(key, i);
+    let mut counts: Vec<i64> = (0..44).map(|i| (drawn(i) % (1 << 26)) as i64).collect();
+    let mut sums: Vec<i64> = (0..44).map(|i| counts[i as usize] * 262_210 / ((drawn(i) >> 26) % 16 + 1) as i64).collect();
+    let r = drawn(44);
+    let k = (r / 8 % 44) as usize;
+    match r % 8 {
+        0 => counts[k] = u32::MAX.into(),
+        1 => sums[k] = counts[k] * 262_210 + (r / 512 % 2) as i64,
+        _ => {}
+    }
+    (counts, sums)
+}
+
+fn block(key: u64, d: &mut Digest, reported: bool) {
     let size = size(draw(key, 1));
     let scale = |r: u64| [4, 5].get((r % 8) as usize).copied().unwrap_or(r / 8 % 4);
     let tokens = filled(lent(draw(key, 2), 32, size), draw(key, 5), scale(draw(key, 6)));
@@ -179,16 +194,25 @@ fn block(key: u64, d: &mut Digest) {
         tokens: &tokens,
         samples: samples.len(),
     };
-    let answer = rules::reconstruct(&c);
+    let mut answer = rules::reconstruct(&c);
+    let (mut counts, mut sums) = report(draw(key, 17));
+    if reported && answer == 0 && rules::bad_report(tokens.len(), &counts, &sums) {
+        answer = 15;
+    }
     if answer == 0 {
         let mut plane = intra::Plane::new(width as usize, height as usize);
         plane.samples_mut().copy_from_slice(&samples);
         let (x, y) = (c.x as usize, c.y as usize);
         reconstruct::reconstruct_block(&mut plane, x, y, size, &tokens, c.dc, c.ac, c.tx_type, c.lossless, c.depth);
         samples.copy_from_slice(plane.samples());
+        rules::count(size, &tokens, &mut counts, &mut sums);
     }
     d.feed(answer.into());
     d.list(samples.into_iter().map(i64::from));
+    if reported {
+        d.list(counts.into_iter());
+        d.list(sums.into_iter());
+    }
 }
 
 fn forward_wht(key: u64, d: &mut Digest) {
@@ -298,15 +322,16 @@ fn file(key: u64, d: &mut Digest) {
 type Kind = fn(u64, &mut Digest);
 
 /// The kinds of calls. A new one is added at the end.
-const KINDS: [(&str, Kind); 8] = [
+const KINDS: [(&str, Kind); 9] = [
     ("inverse_transform_2d", |key, d| driver(key, d, true)),
     ("inverse_transform_2d_reference", |key, d| driver(key, d, false)),
-    ("reconstruct_block", block),
+    ("reconstruct_block", |key, d| block(key, d, false)),
     ("forward_wht_2d", forward_wht),
     ("quantize_block_tx", |key, d| quantize(key, d, true)),
     ("quantize_block", |key, d| quantize(key, d, false)),
     ("max_codeable_coef", max_codeable),
     ("replay and blockrun", file),
+    ("reconstruct_block_report", |key, d| block(key, d, true)),
 ];
 
 pub fn print(seed: u64, count: u64) {

@@ -47,6 +47,9 @@ pub const SHAPES: &[Shape] = &[
     Shape { kind: 25, name: "quantize_block", args: &["dc", "ac"], lists: &["coefs"], nums: &["answer"], after: T },
     Shape { kind: 26, name: "max_codeable_coef", args: &["depth"], lists: &[], nums: &["value"], after: NONE },
     Shape { kind: 30, name: "vbk", args: &[], lists: &["bytes"], nums: &["answer", "touched"], after: &[After::New, After::New] },
+    Shape { kind: 31, name: "reconstruct_block_report",
+        args: &["x", "y", "size", "type", "lossless", "depth", "dc", "ac", "width", "height"],
+        lists: &["tokens", "samples", "counts", "sums"], nums: &["answer"], after: &[After::Lent(1), After::Lent(2), After::Lent(3)] },
 ];
 
 pub fn shape(kind: u32) -> Option<&'static Shape> {

@@ -13,7 +13,7 @@ mod archive;
 use archive::*;
 
 /// The kinds that are exported.
-const KINDS: [u32; 8] = [20, 21, 22, 23, 24, 25, 26, 30];
+const KINDS: [u32; 9] = [20, 21, 22, 23, 24, 25, 26, 30, 31];
 
 const MARGIN: usize = 8;
 
@@ -122,8 +122,42 @@ fn ours(c: &Call) -> (Outcome, bool) {
             (Outcome { nums: vec![v.into()], lists: vec![] }, true)
         }
         30 => ours_file(&c.lists[0]),
+        31 => ours_report(c),
         k => panic!("kind {k} is not exported"),
     }
+}
+
+/// A block with a report beside it.
+fn ours_report(c: &Call) -> (Outcome, bool) {
+    let a = |i: usize| c.args[i];
+    let mut tokens = Lent::new(c.lists[0].iter().copied(), i64::MIN + 77);
+    let mut s = Lent::new(c.lists[1].iter().map(|v| *v as u16), 54_321);
+    let mut counts = Lent::new(c.lists[2].iter().map(|v| *v as u32), 0xa5a5_a5a5);
+    let mut sums = Lent::new(c.lists[3].iter().map(|v| *v as u64), u64::MAX - 76);
+    let answer = unsafe {
+        bracetwill_reconstruct_block_report(
+            s.at(),
+            s.len(),
+            a(8) as usize,
+            a(9) as usize,
+            a(0) as usize,
+            a(1) as usize,
+            a(2) as u32,
+            tokens.at(),
+            tokens.len(),
+            a(6) as i32,
+            a(7) as i32,
+            a(3) as u8,
+            a(4) != 0,
+            a(5) as u32,
+            counts.at().cast(),
+            sums.at().cast(),
+        )
+    };
+    let kept = s.kept(s.len()) && tokens.kept(tokens.len()) && tokens.list() == c.lists[0];
+    let sums_list = sums.list().iter().map(|v| *v as i64).collect();
+    let lists = vec![wide(s.list()), wide(counts.list()), sums_list];
+    (Outcome { nums: vec![answer.into()], lists }, kept && counts.kept(44) && sums.kept(44))
 }
 
 /// A run over a file, and its text, which must say the same.

@@ -23,7 +23,8 @@ fn class(c: &Call, o: &Outcome) -> Vec<i128> {
             let kind = if c.args[4] == 1 { 9 } else { c.args[3] };
             vec![0, c.args[2], kind, c.args[5], i128::from(cut) + i128::from(outside)]
         }
-        22 => vec![answer, small(c.args[2]), small(c.args[5])],
+        31 if answer == 0 => vec![0, c.args[2], c.args[5]],
+        22 | 31 => vec![answer, small(c.args[2]), small(c.args[5])],
         24 if answer == 0 => vec![0, c.args[2], c.args[3]],
         23..=25 => vec![answer],
         30 => {
@@ -59,6 +60,13 @@ fn room(c: &Call, o: &Outcome) -> (usize, usize) {
             2 => (1_600, 1),
             _ => (3_000, 3),
         },
+        31 if answer == 0 => match c.args[2] {
+            0 => (500, 10),
+            1 => (900, 6),
+            2 => (2_000, 3),
+            _ => (5_000, 2),
+        },
+        31 => (700, 2),
         20 | 21 => (300, 3),
         22 => (300, 2),
         23 if answer == 0 => (300, 150),
@@ -83,7 +91,7 @@ pub fn write_all(seed: u64, out: &mut dyn Write) {
                     let c = cases::refused(&mut r, kind, &[*a, *b]);
                     let o = ask::ask(&c);
                     let text = line::write(&c, &o);
-                    (o.nums[0] == i128::from(*a) && text.len() < 300).then_some(text)
+                    (o.nums[0] == i128::from(*a) && text.len() < if kind == 31 { 700 } else { 300 }).then_some(text)
                 });
                 worked.entry(kind).or_default().extend(line);
             }

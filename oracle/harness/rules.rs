@@ -107,6 +107,29 @@ pub fn reconstruct(c: &Recon) -> u8 {
     0
 }
 
+/// The last magnitude of each class but the last.
+const CLASS_ENDS: [u64; 10] = [0, 1, 2, 3, 4, 6, 10, 18, 34, 66];
+
+/// The class of a magnitude: how many classes end below it.
+pub fn class(magnitude: u64) -> usize {
+    CLASS_ENDS.iter().filter(|end| **end < magnitude).count()
+}
+
+/// A report of 44 counts and 44 sums, a sum as the 64 bits it is stored in, that cannot take so many tokens more.
+pub fn bad_report(more: usize, counts: &[i64], sums: &[i64]) -> bool {
+    let total: i128 = counts.iter().map(|c| i128::from(*c)).sum::<i128>() + more as i128;
+    total > i128::from(u32::MAX) || counts.iter().zip(sums).any(|(c, s)| i128::from(*s as u64) > i128::from(*c) * 262_210)
+}
+
+/// Every token of a block, in the report.
+pub fn count(size: u32, tokens: &[i64], counts: &mut [i64], sums: &mut [i64]) {
+    for t in tokens {
+        let at = 11 * size as usize + class(t.unsigned_abs());
+        counts[at] += 1;
+        sums[at] += t.abs();
+    }
+}
+
 pub fn forward_wht(block: &[i64]) -> u8 {
     if block.len() != 16 {
         return 6;

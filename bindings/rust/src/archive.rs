@@ -19,6 +19,24 @@ unsafe extern "C" {
         lossless: bool,
         bit_depth: u32,
     ) -> u32;
+    pub fn bracetwill_reconstruct_block_report(
+        samples: *mut u16,
+        samples_len: usize,
+        width: usize,
+        height: usize,
+        x: usize,
+        y: usize,
+        tx_sz: u32,
+        tokens: *const i64,
+        tokens_len: usize,
+        dc_quant: i32,
+        ac_quant: i32,
+        tx_type: u8,
+        lossless: bool,
+        bit_depth: u32,
+        counts: *mut [u32; 44],
+        sums: *mut [u64; 44],
+    ) -> u32;
     pub fn bracetwill_forward_wht_2d(block: *mut i64, block_len: usize) -> u32;
     pub fn bracetwill_quantize_block_tx(
         coefs: *mut i64,

@@ -370,6 +370,182 @@ pub mod reconstruct {
     }
 }
 
+/// Reconstruction with a report beside it: which magnitudes the tokens have. The Rust has no such call.
+pub mod report {
+    use super::reconstruct::Samples;
+    use super::{Refusal, answer, archive, taken};
+
+    /// How many classes of magnitudes there are: 0, 1, 2, 3, 4, 5 to 6, 7 to 10, 11 to 18, 19 to 34, 35 to 66, 67 and up.
+    pub const CLASSES: usize = 11;
+
+    /// How many tokens of each size and class were counted, and the sum of their magnitudes.
+    ///
+    /// ```
+    /// use bracetwill::intra::Plane;
+    /// use bracetwill::report::{Report, try_reconstruct_block_report};
+    ///
+    /// let mut plane = Plane::new(4, 4);
+    /// let mut report = Report::new();
+    /// let mut tokens = [0; 16];
+    /// (tokens[0], tokens[1]) = (-5, 6);
+    /// try_reconstruct_block_report(&mut plane, 0, 0, 0, &tokens, 4, 4, 0, true, 8, &mut report)?;
+    /// assert_eq!((report.count(0, 0), report.count(0, 5), report.sum(0, 5)), (14, 2, 11));
+    /// assert_eq!(report.total(), 16);
+    /// # Ok::<(), bracetwill::Refusal>(())
+    /// ```
+    #[derive(Debug, Clone, PartialEq, Eq)]
+    pub struct Report {
+        counts: [u32; 44],
+        sums: [u64; 44],
+    }
+
+    impl Report {
+        /// The report of no token.
+        pub fn new() -> Self {
+            Self { counts: [0; 44], sums: [0; 44] }
+        }
+
+        /// A report that was kept: its counts and sums, size by size and class by class. Whether it can be one is tested by the call.
+        ///
+        /// ```
+        /// use bracetwill::report::Report;
+        ///
+        /// let report = Report::of([1; 44], [0; 44]);
+        /// assert_eq!((report.total(), Report::of(*report.counts(), *report.sums())), (44, report));
+        /// ```
+        pub fn of(counts: [u32; 44], sums: [u64; 44]) -> Self {
+            Self { counts, sums }
+        }
+
+        /// The counts, size by size and class by class.
+        pub fn counts(&self) -> &[u32; 44] {
+            &self.counts
+        }
+
+        /// The sums, in the same order.
+        pub fn sums(&self) -> &[u64; 44] {
+            &self.sums
+        }
+
+        /// How many tokens of a size number and class, both counted from 0; panics where there is no such size or class.
+        pub fn count(&self, size: usize, class: usize) -> u32 {
+            self.counts[entry(size, class)]
+        }
+
+        /// The sum of their magnitudes.
+        pub fn sum(&self, size: usize, class: usize) -> u64 {
+            self.sums[entry(size, class)]
+        }
+
+        /// How many tokens there are in all.
+        pub fn total(&self) -> u64 {
+            self.counts.iter().copied().map(u64::from).sum()
+        }
+    }
+
+    impl Default for Report {
+        fn default() -> Self {
+            Self::new()
+        }
+    }
+
+    #[track_caller]
+    fn entry(size: usize, class: usize) -> usize {
+        assert!(size < 4, "there is no size number {size}");
+        assert!(class < CLASSES, "there is no class {class}");
+        size * CLASSES + class
+    }
+
+    /// [`try_reconstruct_block`](super::reconstruct::try_reconstruct_block) with a report beside it. Where the block is done, each of its
+    /// tokens, also of those that the plane cuts off, adds 1 to the count and its magnitude to the sum of its size and class. Refused with
+    /// 1 to 9, and after them with 15: the counts and the block's tokens are more than 4,294,967,295 in all, or a sum of the report is above
+    /// its count × 262,210. A refusal changes neither the plane nor the report.
+    ///
+    /// ```
+    /// use bracetwill::Refusal;
+    /// use bracetwill::intra::Plane;
+    /// use bracetwill::report::{Report, try_reconstruct_block_report};
+    ///
+    /// // fifteen tokens short of the greatest total: sixteen do not fit
+    /// let mut counts = [0; 44];
+    /// counts[3] = u32::MAX - 15;
+    /// let (mut plane, mut report) = (Plane::new(4, 4), Report::of(counts, [0; 44]));
+    /// let before = report.clone();
+    /// let refused = try_reconstruct_block_report(&mut plane, 0, 0, 0, &[1; 16], 4, 4, 0, true, 8, &mut report);
+    /// assert_eq!(refused, Err(Refusal::Report));
+    /// assert_eq!(report, before);
+    /// ```
+    #[allow(clippy::too_many_arguments)]
+    pub fn try_reconstruct_block_report<P: Samples + ?Sized>(
+        plane_buf: &mut P,
+        x: usize,
+        y: usize,
+        tx_sz: u32,
+        tokens: &[i64],
+        dc_quant: i32,
+        ac_quant: i32,
+        tx_type: u8,
+        lossless: bool,
+        bit_depth: u32,
+        report: &mut Report,
+    ) -> Result<(), Refusal> {
+        let (width, height) = (plane_buf.width(), plane_buf.height());
+        let samples = plane_buf.samples_mut();
+        // SAFETY: the slices are as many numbers as their lengths say and the two lists 44, set and aligned; what is `&mut` is shared with
+        // nobody, so all are apart. Whether the samples are width × height is the call's own test.
+        answer(unsafe {
+            archive::bracetwill_reconstruct_block_report(
+                samples.as_mut_ptr(),
+                samples.len(),
+                width,
+                height,
+                x,
+                y,
+                tx_sz,
+                tokens.as_ptr(),
+                tokens.len(),
+                dc_quant,
+                ac_quant,
+                tx_type,
+                lossless,
+                bit_depth,
+                &mut report.counts,
+                &mut report.sums,
+            )
+        })
+    }
+
+    /// [`try_reconstruct_block_report`]; a refusal panics.
+    ///
+    /// ```
+    /// use bracetwill::intra::Plane;
+    /// use bracetwill::report::{Report, reconstruct_block_report};
+    ///
+    /// // a block outside the plane is done, writes nothing, and counts
+    /// let (mut plane, mut report) = (Plane::new(8, 8), Report::new());
+    /// reconstruct_block_report(&mut plane, 8, 0, 1, &[2; 64], 40, 40, 0, false, 8, &mut report);
+    /// assert_eq!((report.count(1, 2), report.sum(1, 2)), (64, 128));
+    /// ```
+    #[track_caller]
+    #[allow(clippy::too_many_arguments)]
+    pub fn reconstruct_block_report<P: Samples + ?Sized>(
+        plane_buf: &mut P,
+        x: usize,
+        y: usize,
+        tx_sz: u32,
+        tokens: &[i64],
+        dc_quant: i32,
+        ac_quant: i32,
+        tx_type: u8,
+        lossless: bool,
+        bit_depth: u32,
+        report: &mut Report,
+    ) {
+        let result = try_reconstruct_block_report(plane_buf, x, y, tx_sz, tokens, dc_quant, ac_quant, tx_type, lossless, bit_depth, report);
+        taken("reconstruct_block_report", result);
+    }
+}
+
 /// The forward WHT and the quantizer (of the Rust's `fwd_transform.rs`).
 pub mod fwd_transform {
     use super::{Refusal, answer, archive, taken};

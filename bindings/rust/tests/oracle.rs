@@ -131,6 +131,39 @@ fn recon(c: &Call) -> bool {
     theirs.samples() == ours.samples() && theirs.samples() == own.samples() && theirs.samples() == lent.samples
 }
 
+/// The block as above, and beside it what the rules make of the report.
+fn report(c: &Call) -> bool {
+    use bracetwill::report::{Report, reconstruct_block_report, try_reconstruct_block_report};
+    let a = |i: usize| c.args[i];
+    let (x, y, tx_sz, tx_type, lossless) = (a(0) as usize, a(1) as usize, a(2) as u32, a(3) as u8, a(4) != 0);
+    let (depth, dc, ac, width, height) = (a(5) as u32, a(6) as i32, a(7) as i32, a(8) as usize, a(9) as usize);
+    let list = |k: usize, i: usize| c.lists[k][i];
+    let before = Report::of(std::array::from_fn(|i| list(2, i) as u32), std::array::from_fn(|i| list(3, i) as u64));
+    let start = Lent { width, height, samples: c.lists[1].iter().map(|s| *s as u16).collect() };
+    let plain = Call { kind: 22, args: c.args.clone(), lists: c.lists[..2].to_vec() };
+    let (mut lent, mut got) = (start.clone(), before.clone());
+    let tokens = &c.lists[0];
+    let answer = number(try_reconstruct_block_report(&mut lent, x, y, tx_sz, tokens, dc, ac, tx_type, lossless, depth, &mut got));
+    let (mut other, mut panicking) = (start.clone(), before.clone());
+    let panics = catch_unwind(AssertUnwindSafe(|| {
+        reconstruct_block_report(&mut other, x, y, tx_sz, tokens, dc, ac, tx_type, lossless, depth, &mut panicking)
+    }));
+    if lent != other || got != panicking || panics.is_err() != (answer != 0) || !recon(&plain) {
+        return false;
+    }
+    // reconstruction's own answer and samples, which `recon` has just held to the Rust
+    let mut own = start.clone();
+    let want = number(bracetwill::reconstruct::try_reconstruct_block(&mut own, x, y, tx_sz, tokens, dc, ac, tx_type, lossless, depth));
+    let refused = rules::bad_report(tokens.len(), &c.lists[2], &c.lists[3]);
+    if want != 0 || refused {
+        return answer == (if want != 0 { want } else { 15 }) && lent == start && got == before;
+    }
+    let (mut counts, mut sums) = (c.lists[2].clone(), c.lists[3].clone());
+    rules::count(tx_sz, tokens, &mut counts, &mut sums);
+    let entries = (0..44).all(|k| i64::from(got.count(k / 11, k % 11)) == counts[k] && got.sum(k / 11, k % 11) as i64 == sums[k]);
+    answer == 0 && lent == own && entries && got.total() == before.total() + tokens.len() as u64
+}
+
 fn file(c: &Call) -> bool {
     let bytes: Vec<u8> = c.lists[0].iter().map(|b| *b as u8).collect();
     let want = vbk::replay(&bytes);
@@ -204,6 +237,7 @@ fn compare(c: &Call) -> Option<(&'static str, bool)> {
             fwd::max_codeable_coef(depth) == want
         }
         30 => file(c),
+        31 => report(c),
         _ => return None,
     };
     Some((name, alike))
@@ -233,7 +267,7 @@ fn main() {
         println!("{name:<32} {a:>7} alike {b:>4} not");
         (same, differ) = (same + a, differ + b);
     }
-    assert_eq!(tally.len(), 8, "every public call is compared");
+    assert_eq!(tally.len(), 9, "every public call is compared");
     println!("{same} passed, {differ} failed");
     std::process::exit(i32::from(differ != 0));
 }

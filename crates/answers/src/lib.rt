@@ -6,7 +6,7 @@ ghost use Rattle.answers.specs.Answers.{number};
 ghost use Rattle.answers.specs.Bad.{badDepth, badSize, badLossless, badTxType, anyBeyond};
 ghost use Rattle.answers.specs.Sizes.{side, area};
 
-// The answers of all calls and of the VBK reader, in the order of their numbers, 0 to 14.
+// The answers of all calls and of the VBK reader, in the order of their numbers, 0 to 15.
 pub enum Answer {
     Done,
     Depth,
@@ -23,6 +23,7 @@ pub enum Answer {
     CutShort,
     TooLarge,
     LosslessByte,
+    Report,
 }
 
 // Magnitude of dequantized values, of the 2D driver's input and of the quantizer's.
@@ -66,6 +67,7 @@ pub fn code(a: Answer) -> u32
         Answer::CutShort => 12,
         Answer::TooLarge => 13,
         Answer::LosslessByte => 14,
+        Answer::Report => 15,
     }
 }
 

@@ -3,6 +3,7 @@
 mod coder;
 mod drivers;
 mod files;
+mod reports;
 mod samples;
 
 use libc::STDERR_FILENO;
@@ -10,7 +11,7 @@ use libc::STDIN_FILENO;
 use libc::STDOUT_FILENO;
 
 // Kinds of calls. A new one is added at the end.
-const KINDS: u64 = 8;
+const KINDS: u64 = 9;
 
 // The digest after one call more.
 fn one(kind: u64, key: u64, digest: u64) -> u64 {
@@ -22,7 +23,8 @@ fn one(kind: u64, key: u64, digest: u64) -> u64 {
         4 => coder::quantize_tx(key, digest),
         5 => coder::quantize(key, digest),
         6 => coder::max_codeable(key, digest),
-        _ => files::run(key, digest),
+        7 => files::run(key, digest),
+        _ => samples::reconstruct_report(key, digest),
     }
 }
 
@@ -47,7 +49,8 @@ fn name(kind: u64) -> bool {
         4 => io::write_all(STDOUT_FILENO, b"quantize_block_tx              "),
         5 => io::write_all(STDOUT_FILENO, b"quantize_block                 "),
         6 => io::write_all(STDOUT_FILENO, b"max_codeable_coef              "),
-        _ => io::write_all(STDOUT_FILENO, b"replay and blockrun            "),
+        7 => io::write_all(STDOUT_FILENO, b"replay and blockrun            "),
+        _ => io::write_all(STDOUT_FILENO, b"reconstruct_block_report       "),
     }
 }
 

@@ -1,5 +1,6 @@
-// Calls of reconstruct_block, on planes of 0 to 40 by 0 to 40 samples.
+// Calls of reconstruct_block and reconstruct_block_report, on planes of 0 to 40 by 0 to 40 samples.
 use crate::drivers::room;
+use crate::reports;
 use plane::Plane;
 use quant::AcQuant;
 use quant::DcQuant;
@@ -92,13 +93,68 @@ fn on_samples(
     draws::feed_samples(draws::feed(digest, answer as u64), samples)
 }
 
+fn call_report(
+    samples: &mut [u16],
+    plane: Plane,
+    tokens: &[i64],
+    key: u64,
+    size: u32,
+    counts: &mut [u32; 44],
+    sums: &mut [u64; 44],
+) -> u32 {
+    let a = report::reconstruct_block_report(
+        samples,
+        plane,
+        place(draws::draw(key, 11)),
+        place(draws::draw(key, 12)),
+        size,
+        tokens,
+        DcQuant(draws::quantizer(draws::draw(key, 13))),
+        AcQuant(draws::quantizer(draws::draw(key, 14))),
+        draws::tx_type(draws::draw(key, 3), size),
+        draws::lossless(draws::draw(key, 4), size),
+        draws::depth(draws::draw(key, 7)),
+        counts,
+        sums,
+    );
+    answers::code(a)
+}
+
+// The same with a report: the digest after the answer, the samples and the report.
+fn on_report(
+    samples: &mut [u16],
+    plane: Plane,
+    tokens: &[i64],
+    key: u64,
+    size: u32,
+    digest: u64,
+) -> u64 {
+    draws::fill_samples(samples, draws::draw(key, 9), draws::draw(key, 10) % 4);
+    let mut counts = reports::counts();
+    let mut sums = reports::sums();
+    reports::fill(&mut counts, &mut sums, draws::draw(key, 17));
+    let answer = call_report(samples, plane, tokens, key, size, &mut counts, &mut sums);
+    let d = draws::feed_samples(draws::feed(digest, answer as u64), samples);
+    reports::feed_sums(reports::feed_counts(d, &counts), &sums)
+}
+
 // With tokens filled in.
-fn on_tokens(tokens: &mut [i64], key: u64, size: u32, digest: u64) -> u64 {
+fn on_tokens(tokens: &mut [i64], key: u64, size: u32, reported: bool, digest: u64) -> u64 {
     draws::fill(tokens, draws::draw(key, 5), scale(draws::draw(key, 6)));
     let width = side(draws::draw(key, 15));
     let height = side(draws::draw(key, 16));
     let mut room = samples();
     let count = draws::within_samples(lent(draws::draw(key, 8), width, height), &room);
+    if reported {
+        return on_report(
+            &mut room[..count],
+            Plane { width, height },
+            tokens,
+            key,
+            size,
+            digest,
+        );
+    }
     on_samples(
         &mut room[..count],
         Plane { width, height },
@@ -109,9 +165,17 @@ fn on_tokens(tokens: &mut [i64], key: u64, size: u32, digest: u64) -> u64 {
     )
 }
 
-pub fn reconstruct(key: u64, digest: u64) -> u64 {
+fn block(key: u64, reported: bool, digest: u64) -> u64 {
     let mut room = room();
     let size = draws::size(draws::draw(key, 1));
     let count = draws::within(tokens_lent(draws::draw(key, 2), size), &room);
-    on_tokens(&mut room[..count], key, size, digest)
+    on_tokens(&mut room[..count], key, size, reported, digest)
+}
+
+pub fn reconstruct(key: u64, digest: u64) -> u64 {
+    block(key, false, digest)
+}
+
+pub fn reconstruct_report(key: u64, digest: u64) -> u64 {
+    block(key, true, digest)
 }

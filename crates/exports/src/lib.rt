@@ -10,10 +10,12 @@ ghost use lib.ListN.{length, drop};
 ghost use Rattle.answers.specs.Limits.{codeable};
 ghost use Rattle.idct.specs.Driver.{answerOf, blockAfter};
 ghost use Rattle.reconstruct.specs.Reconstruct.{answerOf as reconstructAnswer, samplesAfter};
+ghost use Rattle.report.specs.Report.{answerOf as reportAnswer};
 ghost use Rattle.fwd_transform.specs.ForwardWht.{whtAnswer, whtAfter};
 ghost use Rattle.fwd_transform.specs.Quantize.{answerOf as quantizeAnswer, coefsAfter};
 ghost use Rattle.vbk.specs.Promises.{Printed};
 ghost use Rattle.exports.specs.Told.{Told};
+ghost use Rattle.exports.specs.Report.{lentAfter};
 ghost use Rattle.exports.specs.Run.{FIGURES, RunTold};
 
 // Numbers that a run tells of itself: depth, width, height, records read, touched count.
@@ -77,6 +79,44 @@ pub extern "C" fn bracetwill_reconstruct_block(
         tx_type,
         lossless,
         bit_depth,
+    );
+    answers::code(a)
+}
+
+// The same with a report beside it: every token of a block that is done is counted in its size and class.
+#[no_mangle]
+pub extern "C" fn bracetwill_reconstruct_block_report(
+    samples: &mut [u16],
+    width: usize,
+    height: usize,
+    x: usize,
+    y: usize,
+    tx_sz: u32,
+    tokens: &[i64],
+    dc_quant: i32,
+    ac_quant: i32,
+    tx_type: u8,
+    lossless: bool,
+    bit_depth: u32,
+    counts: &mut [u32; 44],
+    sums: &mut [u64; 44],
+) -> u32
+    ensures { λ r. ⌜ Told reportAnswer lentAfter (record { block = record { samples = now (samples .entry); plane = record { width = width; height = height }; x = x; y = y; size = «tx_sz»; tokens = now (tokens .entry); dc = record { 0 = «dc_quant» }; ac = record { 0 = «ac_quant» }; tx-type = «tx_type»; lossless = lossless; depth = «bit_depth» }; counts = now (counts .entry); sums = now (sums .entry) }) r (record { samples = now (samples .exit); counts = now (counts .exit); sums = now (sums .exit) }) ⌝ }
+{
+    let a = report::reconstruct_block_report(
+        samples,
+        Plane { width, height },
+        x,
+        y,
+        tx_sz,
+        tokens,
+        DcQuant(dc_quant),
+        AcQuant(ac_quant),
+        tx_type,
+        lossless,
+        bit_depth,
+        counts,
+        sums,
     );
     answers::code(a)
 }

@@ -104,7 +104,7 @@ quantizer-test (pos n) b = go (ltb n 1) (ltb QUANT_LIMIT n) refl refl
     go false false p r = absurd (b .outside n (ltb-false n 1 p) (ltb-false QUANT_LIMIT n r) refl)
 
 -- ---- 8 and 9
-found : (p : ℕ → Bool) (n : ℕ) → anyBelow p n ≡ true → (k : ℕ) × (k < n) × (p k ≡ true)
+pub found : (p : ℕ → Bool) (n : ℕ) → anyBelow p n ≡ true → (k : ℕ) × (k < n) × (p k ≡ true)
 unfolding anyBelow
 found p zero h = never h
 found p (suc n) h = or-true (p n) (anyBelow p n) (λ e. (n, omega arith, e)) (λ e. let f = found p n e in (f .0, omega (arith, f .1), f .2)) h

@@ -10,6 +10,7 @@ use Rattle.answers.specs.Limits.{codeable}
 use Rattle.answers.proofs.Numbers.{number-injective}
 use Rattle.idct.specs.Driver as D
 use Rattle.reconstruct.specs.Reconstruct as R
+use Rattle.report.specs.Report as P
 use Rattle.fwd_transform.specs.Quantize as Q
 use Rattle.fwd_transform.specs.ForwardWht.{Forwarded}
 use Rattle.vbk_read.specs.Header.{Headed}
@@ -37,6 +38,11 @@ driver-unique u a b s t p q = (same-answer (D.answerOf u) a b (p .answered) (q .
 -- `reconstruct_block`
 pub reconstruct-unique : (u : R.Input) (a b : Answer) (s t : List ℕ) → R.Reconstructed u a s → R.Reconstructed u b t → (a ≡ b) × (s ≡ t)
 reconstruct-unique u a b s t p q = (same-answer (R.answerOf u) a b (p .answered) (q .answered), same (p .written) (q .written))
+
+-- `reconstruct_block_report`
+pub report-unique : (u : P.Input) (a b : Answer) (s t c d m n : List ℕ) → P.Reported u a s c m → P.Reported u b t d n → (a ≡ b) × (s ≡ t) × (c ≡ d) × (m ≡ n)
+report-unique u a b s t c d m n p q =
+    (same-answer (P.answerOf u) a b (p .answered) (q .answered), same (p .written) (q .written), same (p .counted) (q .counted), same (p .summed) (q .summed))
 
 -- `forward_wht_2d`
 pub forward-unique : (block : List ℤ) (a b : Answer) (s t : List ℤ) → Forwarded block a s → Forwarded block b t → (a ≡ b) × (s ≡ t)
@@ -100,7 +106,7 @@ pub blockrun-unique : (s samples answers out : List ℕ) (r t : ℕ) (p₁ p₂ 
 blockrun-unique s samples answers out r t p₁ p₂ a₁ a₂ o₁ o₂ p q =
     (same (p .length-is) (q .length-is), same (p .samples-are) (q .samples-are), same (p .answers-are) (q .answers-are), same (p .text-is) (q .text-is))
 
--- `bracetwill_inverse_transform_2d`, its reference, `bracetwill_reconstruct_block`, `bracetwill_forward_wht_2d`, `bracetwill_quantize_block_tx` and `bracetwill_quantize_block`
+-- `bracetwill_inverse_transform_2d`, its reference, `bracetwill_reconstruct_block`, `bracetwill_reconstruct_block_report`, `bracetwill_forward_wht_2d`, `bracetwill_quantize_block_tx` and `bracetwill_quantize_block`
 pub told-unique : {Given Lent : Type 0} (answer : Given → ℕ) (after : Given → Lent) (u : Given) (r t : ℕ) (k l : Lent) → Told answer after u r k
     → Told answer after u t l → (r ≡ t) × (k ≡ l)
 told-unique answer after u r t k l p q = (same (p .answered) (q .answered), same (p .written) (q .written))

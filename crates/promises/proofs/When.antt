@@ -135,7 +135,7 @@ reconstruct-has u n (W.coefficient h) =
     there (there (there (there (there (there (there (there
     (here-if 9 _ _ (T.beyond-test COEF_LIMIT (length (u .tokens)) (dequantAll (u .size) (u .dc) (u .ac) (u .tokens)) h)))))))))
 
-reconstruct-exactly : (u : R.Input) → Exactly (W.Reconstruct u) (R.answerOf u)
+pub reconstruct-exactly : (u : R.Input) → Exactly (W.Reconstruct u) (R.answerOf u)
 unfolding R.answerOf R.badCoefficient
 reconstruct-exactly u =
     exactly (W.Reconstruct u) _ tt

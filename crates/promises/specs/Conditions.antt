@@ -2,7 +2,7 @@
 use mathlib.Core.Path.{_≡_}
 use mathlib.Core.Bool.{Bool, true, false}
 use mathlib.Core.List.{List}
-use Prim.Native.Nat.{ℕ, _≤_, _<_}
+use Prim.Native.Nat.{ℕ, _*_, _≤_, _<_}
 use lib.IntN.{ℤ, pos, natAbs}
 use lib.ListN.{getD}
 
@@ -31,3 +31,9 @@ pub record SomeBeyond (m n : ℕ) (l : List ℤ) : Type 0 where
   pub place : ℕ
   pub listed : place < n
   pub beyond : m < natAbs (getD l place (pos 0))
+
+-- 15: of a report's 44 sums, one is above its count × 262,210
+pub record SumBeyond (counts sums : List ℕ) : Type 0 where
+  pub place : ℕ
+  pub listed : place < 44
+  pub beyond : getD counts place 0 * 262210 < getD sums place 0

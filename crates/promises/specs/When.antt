@@ -9,12 +9,14 @@ use Rattle.quant.specs.Places.{dequantAll}
 use Rattle.answers.specs.Sizes.{area}
 use Rattle.idct.specs.Driver as D
 use Rattle.reconstruct.specs.Reconstruct as R
+use Rattle.report.specs.Report as P
+use Rattle.report.specs.Report.{TOTAL_LIMIT, total}
 use Rattle.fwd_transform.specs.Quantize as Q
 use Rattle.vbk_read.specs.Bytes.{le1}
 use Rattle.vbk_read.specs.Header.{HEADER_BYTES, versionOf, depthOf, planeArea, firstRecord}
 use Rattle.vbk_read.specs.Records.{HEAD_BYTES, sizeAt, losslessAt, nextAt}
 use Rattle.vbk.specs.Replay.{RECORD_LIMIT}
-use Rattle.promises.specs.Conditions.{NoDepth, LosslessAt, NoTxType, NoQuantizer, SomeBeyond}
+use Rattle.promises.specs.Conditions.{NoDepth, LosslessAt, NoTxType, NoQuantizer, SomeBeyond, SumBeyond}
 
 -- the 2D driver and the reference driver; the size number is n − 2
 pub data Driver (u : D.Input) : ℕ → Type 0 where
@@ -38,6 +40,12 @@ pub data Reconstruct (u : R.Input) : ℕ → Type 0 where
   samples : (length (u .samples) ≡ u .plane .width * u .plane .height → ⊥) → Reconstruct u 7
   token : SomeBeyond (codeable (u .depth)) (length (u .tokens)) (u .tokens) → Reconstruct u 8
   coefficient : SomeBeyond COEF_LIMIT (length (u .tokens)) (dequantAll (u .size) (u .dc) (u .ac) (u .tokens)) → Reconstruct u 9
+
+-- reconstruction with a report beside it: all that reconstruction refuses, then the report
+pub data Report (u : P.Input) : ℕ → Type 0 where
+  block : {k : ℕ} → Reconstruct (u .block) k → Report u k
+  past : TOTAL_LIMIT < total (u .counts) + length (u .block .tokens) → Report u 15
+  sum : SumBeyond (u .counts) (u .sums) → Report u 15
 
 -- the quantizer
 pub data Quantize (u : Q.Input) : ℕ → Type 0 where

@@ -28,6 +28,10 @@ pub fn verdict(kind: usize, line: &[u8], at: usize, numbers: &mut [i64]) -> Verd
         25 => coder::quantize_block(line, at, numbers),
         26 => coder::max_codeable_coef(line, at),
         30 => reached(line, replay_blocks::vbk_file(line, at, numbers)),
+        31 => reached(
+            line,
+            replay_blocks::reconstruct_block_report(line, at, numbers),
+        ),
         _ => Verdict::Skipped,
     }
 }

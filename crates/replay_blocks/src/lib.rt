@@ -1,4 +1,4 @@
-// Kinds 22 and 30 of oracle/README.md: a block reconstructed, and a VBK file. Each call hands back the place up to which the line was as
+// Kinds 22, 30 and 31 of oracle/README.md: a block reconstructed, a VBK file, and a block with a report beside it. Each call hands back the place up to which the line was as
 // expected, BROKEN where it was not.
 use answers::Answer;
 use answers::magnitude;
@@ -214,6 +214,225 @@ pub fn reconstruct_block(line: &[u8], at: usize, numbers: &mut [i64]) -> usize {
     let answer = reconstruct(b, &tokens[0..n], &mut samples[0..m], numbers);
     let next = lines::same_unsigned(line, s.next, answers::code(answer) as u64);
     lines::same_lent(line, next, t.next, &numbers[0..m])
+}
+
+// Room for one list of a report.
+fn report_room() -> [i64; 44]
+    ensures { λ r. ⌜ 44 ≡ length r ⌝ }
+{
+    [0; 44]
+}
+
+fn no_counts() -> [u32; 44] {
+    [0; 44]
+}
+
+fn no_sums() -> [u64; 44] {
+    [0; 44]
+}
+
+// Numbers as counts; false where one is not a u32.
+fn to_counts(numbers: &[i64], into: &mut [u32; 44]) -> bool
+    requires { ⌜ 44 ≤ length (now numbers) ⌝ }
+{
+    let mut i = 0;
+    while i < 44 {
+        let x = numbers[i];
+        if x < 0 {
+            return false;
+        }
+        let m = magnitude(x);
+        if 4294967295 < m {
+            return false;
+        }
+        into[i] = m as u32;
+        i += 1;
+    }
+    true
+}
+
+// Numbers as sums; false where one is negative.
+fn to_sums(numbers: &[i64], into: &mut [u64; 44]) -> bool
+    requires { ⌜ 44 ≤ length (now numbers) ⌝ }
+{
+    let mut i = 0;
+    while i < 44 {
+        let x = numbers[i];
+        if x < 0 {
+            return false;
+        }
+        into[i] = magnitude(x);
+        i += 1;
+    }
+    true
+}
+
+fn signed32(x: u32) -> i64 {
+    x as i64
+}
+
+// A sum as a number; -1 where it is beyond all that a line can hold.
+fn signed64(x: u64) -> i64 {
+    if x <= 9223372036854775807 {
+        return x as i64;
+    }
+    -1
+}
+
+// Counts as numbers.
+fn from_counts(counts: &[u32; 44], into: &mut [i64])
+    requires { ⌜ 44 ≤ length (now into) ⌝ }
+    ensures { λ _. ⌜ 44 ≤ length (now (into .exit)) ⌝ }
+{
+    let mut i = 0;
+    while i < 44 {
+        let x = signed32(counts[i]);
+        into[i] = x;
+        i += 1;
+    }
+}
+
+// Sums as numbers.
+fn from_sums(sums: &[u64; 44], into: &mut [i64])
+    requires { ⌜ 44 ≤ length (now into) ⌝ }
+    ensures { λ _. ⌜ 44 ≤ length (now (into .exit)) ⌝ }
+{
+    let mut i = 0;
+    while i < 44 {
+        let x = signed64(sums[i]);
+        into[i] = x;
+        i += 1;
+    }
+}
+
+// The list at `at` is the counts, and the one after it the sums; `first` and `second` are the lent ones.
+fn same_report(
+    line: &[u8],
+    at: usize,
+    first: usize,
+    second: usize,
+    counts: &[u32; 44],
+    sums: &[u64; 44],
+    numbers: &mut [i64],
+) -> usize {
+    if numbers.len() < 44 {
+        return BROKEN;
+    }
+    from_counts(counts, numbers);
+    let next = lines::same_lent(line, at, first, &numbers[0..44]);
+    from_sums(sums, numbers);
+    lines::same_lent(line, next, second, &numbers[0..44])
+}
+
+// The call with a report.
+fn reconstruct_report(
+    b: Block,
+    tokens: &[i64],
+    samples: &mut [u16],
+    counts: &mut [u32; 44],
+    sums: &mut [u64; 44],
+) -> Answer {
+    report::reconstruct_block_report(
+        samples,
+        Plane {
+            width: b.width as usize,
+            height: b.height as usize,
+        },
+        b.x as usize,
+        b.y as usize,
+        b.size,
+        tokens,
+        DcQuant(b.dc),
+        AcQuant(b.ac),
+        b.tx_type,
+        b.lossless,
+        b.depth,
+        counts,
+        sums,
+    )
+}
+
+// The outcome at `at` is this answer, these samples and this report; `first`, `second` and `third` are the lent lists.
+fn same_reported(
+    line: &[u8],
+    at: usize,
+    answer: Answer,
+    first: usize,
+    second: usize,
+    third: usize,
+    samples: &[u16],
+    counts: &[u32; 44],
+    sums: &[u64; 44],
+    numbers: &mut [i64],
+) -> usize {
+    let count = samples.len();
+    if numbers.len() < count {
+        return BROKEN;
+    }
+    from_samples(samples, count, numbers);
+    let next = lines::same_unsigned(line, at, answers::code(answer) as u64);
+    let last = lines::same_lent(line, next, first, &numbers[0..count]);
+    same_report(line, last, second, third, counts, sums, numbers)
+}
+
+// The report at `second` is read, the call made, and the outcome behind it compared.
+fn answer_report(
+    line: &[u8],
+    b: Block,
+    first: usize,
+    second: usize,
+    tokens: &[i64],
+    samples: &mut [u16],
+    numbers: &mut [i64],
+) -> usize {
+    let mut list = report_room();
+    let mut counts = no_counts();
+    let mut sums = no_sums();
+    let third = lines::read_whole_list(line, second, &mut list);
+    if !to_counts(&list, &mut counts) {
+        return BROKEN;
+    }
+    let outcome = lines::read_whole_list(line, third, &mut list);
+    if !to_sums(&list, &mut sums) {
+        return BROKEN;
+    }
+    let answer = reconstruct_report(b, tokens, samples, &mut counts, &mut sums);
+    same_reported(
+        line,
+        outcome,
+        answer,
+        first,
+        second,
+        third,
+        samples,
+        &counts,
+        &sums,
+        numbers,
+    )
+}
+
+// Kind 31.
+pub fn reconstruct_block_report(line: &[u8], at: usize, numbers: &mut [i64]) -> usize {
+    let b = read_block(line, at);
+    let mut tokens = tokens_room();
+    let t = lines::read_list(line, b.next, &mut tokens);
+    let s = lines::read_list(line, t.next, numbers);
+    let n = t.count;
+    let m = s.count;
+    let mut samples = samples_room();
+    let k = to_samples(numbers, m, &mut samples);
+    if k != m {
+        return BROKEN;
+    }
+    answer_report(
+        line,
+        b,
+        t.next,
+        s.next,
+        &tokens[0..n],
+        &mut samples[0..m],
+        numbers,
+    )
 }
 
 // The list at `at` is so many bytes.

@@ -1,11 +1,11 @@
--- Every answer's number is at most 14.
+-- Every answer's number has at most two digits.
 use Prim.Native.Nat.{_≤_}
 use native.Mathlib.Omega.{arith}
 use Rattle.answers.specs.Answers.{number}
 use Rattle.answers.specs.declared.Answer.{Answer}
-use Rattle.answers.specs.declared.Answer.the-variants.{Done, Depth, Size, LosslessSize, TxType, Quantizer, Length, Plane, Token, Coefficient, Mark, Version, CutShort, TooLarge, LosslessByte}
+use Rattle.answers.specs.declared.Answer.the-variants.{Done, Depth, Size, LosslessSize, TxType, Quantizer, Length, Plane, Token, Coefficient, Mark, Version, CutShort, TooLarge, LosslessByte, Report}
 
-pub number-most : (a : Answer) → number a ≤ 14
+pub number-most : (a : Answer) → number a ≤ 99
 number-most Done = omega arith
 number-most Depth = omega arith
 number-most Size = omega arith
@@ -21,3 +21,4 @@ number-most Version = omega arith
 number-most CutShort = omega arith
 number-most TooLarge = omega arith
 number-most LosslessByte = omega arith
+number-most Report = omega arith

@@ -27,14 +27,14 @@ use vbk_read::Record;
 pub const RECORD_LIMIT: usize = 874;
 
 // The answer's number, as the byte that is kept of it.
-fn number8(a: Answer) -> u8
+pub fn number8(a: Answer) -> u8
     ensures { λ r. ⌜ r ≡ number a ⌝ }
 {
     answers::code(a) as u8
 }
 
 // The touched count: n0² for an answer 0.
-fn touched_by(answer: u8, size: u8) -> usize
+pub fn touched_by(answer: u8, size: u8) -> usize
     requires { ⌜ size ≤ 3 ⌝ }
     ensures { λ r. ⌜ r ≡ touchedBy answer size ⌝ }
 {
@@ -44,7 +44,7 @@ fn touched_by(answer: u8, size: u8) -> usize
     0
 }
 
-fn quantizer(q: u16) -> i32
+pub fn quantizer(q: u16) -> i32
     ensures { λ r. ⌜ r ≡ pos q ⌝ }
 {
     q as i32
@@ -91,9 +91,9 @@ fn answer_record(file: &[u8], at: usize, record: Record, fields: Fields, samples
 }
 
 // How many records were read, and the touched count.
-struct Tally {
-    count: usize,
-    touched: usize,
+pub struct Tally {
+    pub count: usize,
+    pub touched: usize,
 }
 
 // One record of the run: its answer is kept, and its touched count added.
@@ -170,7 +170,7 @@ pub struct Run {
 }
 
 // A run that is refused: the answer, and zeros.
-fn refused(answer: Answer) -> Run
+pub fn refused(answer: Answer) -> Run
     ensures { λ r. ⌜ r ≡ record { answer = answer; fields = noFields; count = 0; touched = 0 } ⌝ }
 {
     Run {

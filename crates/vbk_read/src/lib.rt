@@ -329,7 +329,7 @@ fn ending(found: bool, answer: Answer, end: usize) -> Record
 }
 
 // The record at a place: its checks in the file's own order, its head and the place to read on from.
-fn record_at(s: &[u8], at: usize) -> Record
+pub fn record_at(s: &[u8], at: usize) -> Record
     ensures { λ r. ⌜ Recorded (now (s .entry)) at r ⌝ }
 {
     let end = s.len();

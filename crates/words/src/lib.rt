@@ -25,9 +25,23 @@ pub fn byte64(b: u8) -> u64
     b as u64
 }
 
+// A byte as a count.
+pub fn count8(b: u8) -> usize
+    ensures { λ r. ⌜ r ≡ b ⌝ }
+{
+    b as usize
+}
+
 // A number of two bytes as eight.
 pub fn wide16(x: u16) -> u64
     ensures { λ r. ⌜ r ≡ x ⌝ }
+{
+    x as u64
+}
+
+// A number of four bytes as eight.
+pub fn wide32(x: u32) -> u64
+    ensures { λ r. ⌜ (r ≡ x) × (r < 4294967296) ⌝ }
 {
     x as u64
 }

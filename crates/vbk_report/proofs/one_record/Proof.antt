@@ -1,0 +1,49 @@
+use mathlib.Core.Path.{ap, _∙_}
+use native.Mathlib.Omega.{arith}
+use borrow.Author.Needs.{needs}
+use lib.ListN.{set}
+use Prim.Native.Nat.{ℕ, _+_}
+use Rattle.vbk_read.proofs.Records.{count-most}
+use Rattle.vbk.specs.Replay.{touchedBy}
+use Rattle.vbk_report.specs.Lists.{beside}
+use Rattle.vbk_report.specs.Run.{reportReconstruction}
+use Rattle.vbk.proofs.Records.{head-size, touched-size, touched-most}
+use Rattle.vbk_report.proofs.one_record.Statement.{statement}
+use Rattle.vbk_report.proofs.one_record.Tie as tie
+
+touched-by-requires : tie.Need-touched-by-requires
+touched-by-requires c κs = let s = c .before .before .before .before .before .before .before .before .before in head-size (s .args .file .now) (s .args .at) (s .pre .1)
+
+add-t19 : tie.Need-add-t19
+add-t19 c =
+    let s = c .before .before .before .before .before .before .before .before .before .before .before in
+    let t = c .before .touched-by in
+    record { fits = omega (arith, s .pre .4, t .ensures, touched-most (c .before .before .before .before .answer-record .result) (s .args .«record» .head .size), count-most (s .args .«record» .head .size) (head-size (s .args .file .now) (s .args .at) (s .pre .1))) }
+
+returns : tie.Need-returns
+returns c =
+    let s = c .before .before .before .before .before .before .before .before .before .before .before in
+    let a = s .args in
+    let r = c .before .before .before .before .answer-record in
+    let t = c .before .touched-by in
+    record {
+      count-is = search needs;
+      touched-is =
+          ap (λ (x : ℕ). a .tally .touched + x)
+          (t .ensures ∙ ap (λ (x : ℕ). touchedBy x (a .«record» .head .size)) (r .ensures .0) ∙ touched-size (a .file .now) (a .at) (s .pre .1) reportReconstruction (beside (a .samples .now) (a .counts .now) (a .sums .now)) (s .pre .2));
+      answers-are = ap (set (a .answers .now) (a .tally .count)) (r .ensures .0);
+      samples-are = r .ensures .1;
+    }
+
+pub one-record-spec : {M : Type 1} → statement M
+one-record-spec =
+    tie.close
+    (tie.spec
+    (λ c κs. search needs)
+    (λ c. search needs)
+    (λ c. search needs)
+    touched-by-requires
+    add-t19
+    (λ c. search needs)
+    (λ c. search needs)
+    returns)
