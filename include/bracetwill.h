@@ -171,7 +171,7 @@ enum bracetwill_figure {
   BRACETWILL_FIGURE_WIDTH = 1,
   BRACETWILL_FIGURE_HEIGHT = 2,
   BRACETWILL_FIGURE_RECORDS = 3, /* how many records were read */
-  BRACETWILL_FIGURE_TOUCHED = 4, /* the touched count */
+  BRACETWILL_FIGURE_TOUCHED = 4, /* the touched count: samples written */
   BRACETWILL_FIGURES = 5         /* how many figures there are */
 };
 

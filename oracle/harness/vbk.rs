@@ -68,6 +68,7 @@ pub fn replay(file: &[u8]) -> Replay {
             break;
         }
         let area = rules::area(size);
+        let n0 = 4usize << size;
         if file.len() - at - 11 < 4 * area {
             answers.push(12);
             break;
@@ -113,7 +114,9 @@ pub fn replay(file: &[u8]) -> Replay {
                 lossless,
                 depth.into(),
             );
-            touched += area as u64;
+            // the block's samples that the plane has, one by one
+            let inside = |k: usize| (usize::from(x) + k % n0, usize::from(y) + k / n0);
+            touched += (0..area).map(inside).filter(|&(c, r)| c < usize::from(width) && r < usize::from(height)).count() as u64;
         }
         answers.push(answer);
     }

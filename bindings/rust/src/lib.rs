@@ -666,7 +666,7 @@ pub mod vbk {
         pub samples: Vec<u16>,
         /// Each record's answer, in order.
         pub answers: Vec<Result<(), Refusal>>,
-        /// The touched count, the number behind `T` in the text.
+        /// The touched count, the number behind `T` in the text: samples written.
         pub touched: u64,
     }
 

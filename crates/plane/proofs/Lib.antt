@@ -1,3 +1,4 @@
 pub mod Sum
 pub mod Row
 pub mod Block
+pub mod Count

@@ -31,3 +31,7 @@ pub record SamplesOf (p : Plane) (samples : List ℕ) : Type 0 where
 -- of n rows or columns from `start` on, how many lie in a plane that has `count` of them
 abbrev pub cut : ℕ → ℕ → ℕ → ℕ
 cut count start n = min n (count - start)
+
+-- how many samples a block of n0 × n0 at (x, y) writes: cut rows × cut columns
+unfoldable pub written : Plane → ℕ → ℕ → ℕ → ℕ
+written p x y n0 = cut (p .height) y n0 * cut (p .width) x n0

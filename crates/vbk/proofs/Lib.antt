@@ -5,3 +5,4 @@ pub mod Runs
 pub mod Printing
 pub mod Again
 pub mod Held
+pub mod Touched

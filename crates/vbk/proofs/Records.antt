@@ -12,12 +12,15 @@ use lib.ListN.{length, take, drop, set, length-set, take-append-drop}
 use lib.Seq.{take-suc-set, length-take-le, drop-set-lt, drop-drop}
 use Rattle.answers.proofs.Numbers.{pass, rest}
 use Rattle.answers.specs.Answers.{number}
-use Rattle.answers.specs.Sizes.{area}
+use Rattle.answers.specs.Sizes.{side, area}
+use Rattle.plane.specs.declared.Plane.{Plane}
+use Rattle.plane.specs.Place.{written}
+use Rattle.plane.proofs.Count.{written-block}
 use Rattle.vbk_read.specs.Records.{sizeAt, losslessAt, headAt, nextAt, found, endAnswer, ends, losslessAnswer, checkAnswer, readOn, Recorded}
 use Rattle.vbk_read.specs.declared.Head.{Head}
 use Rattle.vbk_read.specs.declared.Record.{Record}
 use Rattle.vbk_read.proofs.Records.{count-least}
-use Rattle.vbk.specs.Replay.{Reconstruction, After, noRecord, andThen, touchedBy, rebuildAt, rebuiltAt, recordAt, records}
+use Rattle.vbk.specs.Replay.{Reconstruction, After, noRecord, andThen, touchedBy, planeOf, rebuildAt, rebuiltAt, recordAt, records}
 use Rattle.vbk.specs.Inner.{Stepped, Ran}
 
 module _ (R : Reconstruction) (s : List ℕ) where
@@ -27,7 +30,7 @@ module _ (R : Reconstruction) (s : List ℕ) where
   records-none (suc k) at samples h = rw (le-ltb at (length s) h)
 
   pub records-more : (k at : ℕ) (samples : List ℕ) → at < length s
-      → records R s (suc k) at samples ≡ andThen (recordAt R s at samples .answer) (touchedBy (recordAt R s at samples .answer) (sizeAt s at)) (records R s k (readOn s at) (recordAt R s at samples .samples))
+      → records R s (suc k) at samples ≡ andThen (recordAt R s at samples .answer) (touchedBy (recordAt R s at samples .answer) (planeOf s) (headAt s at)) (records R s k (readOn s at) (recordAt R s at samples .samples))
   unfolding records
   records-more k at samples h = rw (lt-ltb at (length s) h)
 
@@ -123,9 +126,9 @@ last-answer : (R : Reconstruction) (s : List ℕ) (at : ℕ) (samples : List ℕ
 unfolding recordAt
 last-answer R s at samples e = rw e
 
-last-touched : (R : Reconstruction) (s : List ℕ) (at : ℕ) (samples : List ℕ) (size : ℕ) → ends s at ≡ true → touchedBy (recordAt R s at samples .answer) size ≡ 0
+last-touched : (R : Reconstruction) (s : List ℕ) (at : ℕ) (samples : List ℕ) (p : Plane) (head : Head) → ends s at ≡ true → touchedBy (recordAt R s at samples .answer) p head ≡ 0
 unfolding touchedBy
-last-touched R s at samples size e = ap (λ (x : ℕ). touchedBy x size) (last-answer R s at samples e) ∙ rw (last-not-done s at e)
+last-touched R s at samples p head e = ap (λ (x : ℕ). touchedBy x p head) (last-answer R s at samples e) ∙ rw (last-not-done s at e)
 
 -- the size in a record's head: 0 where it gives no value
 module _ (s : List ℕ) (at : ℕ) {r : Record} (d : Recorded s at r) where
@@ -137,15 +140,17 @@ module _ (s : List ℕ) (at : ℕ) {r : Record} (d : Recorded s at r) where
       go false true e h = let k : r .head .size ≡ 0 = ap (λ (x : Head). x .size) (d .head-is) ∙ rw (e, h) in omega (arith, k)
       go false false e h = let k : r .head .size ≡ sizeAt s at = ap (λ (x : Head). x .size) (d .head-is) ∙ rw (e, h) in omega (arith, k, there s at e .0)
 
-  -- and that is the record's size, wherever it is counted
-  pub touched-size : (R : Reconstruction) (samples : List ℕ) → r .found ≡ true → touchedBy (recordAt R s at samples .answer) (r .head .size) ≡ touchedBy (recordAt R s at samples .answer) (sizeAt s at)
+  -- and the head is the record's own, wherever it is counted
+  pub touched-head : (R : Reconstruction) (samples : List ℕ) → r .found ≡ true
+      → touchedBy (recordAt R s at samples .answer) (planeOf s) (r .head) ≡ touchedBy (recordAt R s at samples .answer) (planeOf s) (headAt s at)
   unfolding touchedBy recordAt rebuiltAt
-  touched-size R samples f = go (ends s at) (ltb 1 (losslessAt s at)) refl refl
+  touched-head R samples f = go (ends s at) (ltb 1 (losslessAt s at)) refl refl
     where
-      go : (b c : Bool) → ends s at ≡ b → ltb 1 (losslessAt s at) ≡ c → touchedBy (recordAt R s at samples .answer) (r .head .size) ≡ touchedBy (recordAt R s at samples .answer) (sizeAt s at)
-      go true c e h = last-touched R s at samples (r .head .size) e ∙ sym (last-touched R s at samples (sizeAt s at) e)
+      go : (b c : Bool) → ends s at ≡ b → ltb 1 (losslessAt s at) ≡ c
+          → touchedBy (recordAt R s at samples .answer) (planeOf s) (r .head) ≡ touchedBy (recordAt R s at samples .answer) (planeOf s) (headAt s at)
+      go true c e h = last-touched R s at samples (planeOf s) (r .head) e ∙ sym (last-touched R s at samples (planeOf s) (headAt s at) e)
       go false true e h = rw (e, h)
-      go false false e h = let k : r .head .size ≡ sizeAt s at = ap (λ (x : Head). x .size) (d .head-is) ∙ rw (e, h) in ap (touchedBy (recordAt R s at samples .answer)) k
+      go false false e h = let k : r .head ≡ headAt s at = d .head-is ∙ rw (e, h) in ap (touchedBy (recordAt R s at samples .answer) (planeOf s)) k
 
 -- what is done of a run, and what is left of it
 pub record SoFar (total : After) (answers : List ℕ) (count touched : ℕ) (left : After) : Type 0 where
@@ -179,24 +184,24 @@ pub record Placed (s : List ℕ) (count touched at : ℕ) : Type 0 where
   pub spaced : at < length s → 12 + 75 * count ≤ at
   pub touched-few : 4 * touched ≤ at
 
-pub touched-most : (a size : ℕ) → touchedBy a size ≤ area (size + 2)
+pub touched-most : (a : ℕ) (p : Plane) (head : Head) → touchedBy a p head ≤ area (head .size + 2)
 unfolding touchedBy
-touched-most a size = go (eqb a 0)
+touched-most a p head = go (eqb a 0)
   where
-    go : (b : Bool) → cond b (area (size + 2)) 0 ≤ area (size + 2)
-    go true = omega arith
+    go : (b : Bool) → cond b (written p (head .x) (head .y) (side (head .size + 2))) 0 ≤ area (head .size + 2)
+    go true = written-block p (head .x) (head .y) (side (head .size + 2))
     go false = omega arith
 
 -- one record more, from `at` to the place to read on from
 module _ (R : Reconstruction) (s : List ℕ) (at : ℕ) (samples : List ℕ) (h : at < length s) where
   pub placed-step : {count touched : ℕ} → length s ≤ 65535 → Placed s count touched at
-      → Placed s (count + 1) (touched + touchedBy (recordAt R s at samples .answer) (sizeAt s at)) (readOn s at)
+      → Placed s (count + 1) (touched + touchedBy (recordAt R s at samples .answer) (planeOf s) (headAt s at)) (readOn s at)
   unfolding nextAt
   placed-step {count} {touched} small q = go (ends s at) refl
     where
-      go : (b : Bool) → ends s at ≡ b → Placed s (count + 1) (touched + touchedBy (recordAt R s at samples .answer) (sizeAt s at)) (readOn s at)
+      go : (b : Bool) → ends s at ≡ b → Placed s (count + 1) (touched + touchedBy (recordAt R s at samples .answer) (planeOf s) (headAt s at)) (readOn s at)
       go true e =
-          let dt : touchedBy (recordAt R s at samples .answer) (sizeAt s at) ≡ 0 = last-touched R s at samples (sizeAt s at) e in
+          let dt : touchedBy (recordAt R s at samples .answer) (planeOf s) (headAt s at) ≡ 0 = last-touched R s at samples (planeOf s) (headAt s at) e in
           let dn : readOn s at ≡ length s = rw e in
           let sp = q .spaced h in
           record { within = omega (arith, dn); few = omega arith; spaced = λ l. absurd (omega (arith, dn)); touched-few = omega (arith, q .touched-few, dn, dt) }
@@ -205,7 +210,7 @@ module _ (R : Reconstruction) (s : List ℕ) (at : ℕ) (samples : List ℕ) (h 
           let sp = q .spaced h in
           let w = there s at e in
           let least = count-least (sizeAt s at) (w .0) in
-          let most = touched-most (recordAt R s at samples .answer) (sizeAt s at) in
+          let most = touched-most (recordAt R s at samples .answer) (planeOf s) (headAt s at) in
           record { within = omega (arith, w .1, dn); few = omega arith; spaced = λ l. omega (arith, dn); touched-few = omega (arith, q .touched-few, dn) }
 
   -- each record moves the place on
@@ -245,7 +250,7 @@ module _ (R : Reconstruction) (s : List ℕ) (from : ℕ) (samples₀ answers₀
     reading-more {samples′} {answers′} {count′} {touched′} small room h d l =
         let k : length s - count ≡ suc (length s - (count + 1)) = omega (arith, g .placed .spaced h) in
         let a = recordAt R s at samples .answer in
-        let t = touchedBy a (sizeAt s at) in
+        let t = touchedBy a (planeOf s) (headAt s at) in
         let p = placed-step R s at samples h small (g .placed) in
         rw (d .count-is, d .touched-is, d .answers-are, d .samples-are)
         (record {

@@ -4,9 +4,9 @@ use mathlib.Core.List.{List, _++_}
 use Prim.Native.Nat.{ℕ, _+_, _*_, _≤_}
 use lib.ListN.{length, take, drop, set}
 use Rattle.answers.specs.Limits.{FILE_LIMIT}
-use Rattle.vbk_read.specs.Records.{sizeAt}
+use Rattle.vbk_read.specs.Records.{headAt}
 use Rattle.vbk_text.specs.Text.{Outcome, ran}
-use Rattle.vbk.specs.Replay.{Reconstruction, Rebuilt, After, RECORD_LIMIT, touchedBy, rebuildAt, recordAt}
+use Rattle.vbk.specs.Replay.{Reconstruction, Rebuilt, After, RECORD_LIMIT, touchedBy, planeOf, rebuildAt, recordAt}
 use Rattle.vbk.specs.Filled.{reconstruction}
 use Rattle.vbk.specs.declared.Run.{Run}
 
@@ -17,7 +17,7 @@ reconstructAt s at samples = rebuildAt reconstruction s at samples
 -- one record more: its answer is kept and counted, its touched count added, and the samples are as it leaves them
 pub record Stepped (R : Reconstruction) (s : List ℕ) (at : ℕ) (samples answers : List ℕ) (count touched : ℕ) (samples′ answers′ : List ℕ) (count′ touched′ : ℕ) : Type 0 where
   pub count-is : count′ ≡ count + 1
-  pub touched-is : touched′ ≡ touched + touchedBy (recordAt R s at samples .answer) (sizeAt s at)
+  pub touched-is : touched′ ≡ touched + touchedBy (recordAt R s at samples .answer) (planeOf s) (headAt s at)
   pub answers-are : answers′ ≡ set answers count (recordAt R s at samples .answer)
   pub samples-are : samples′ ≡ recordAt R s at samples .samples
 

@@ -5,7 +5,10 @@ use Prim.Native.Nat.{ℕ, zero, suc, _+_}
 use lib.Dec.{ltb, eqb}
 use lib.IntN.{ℤ, pos}
 use lib.ListN.{length}
-use Rattle.answers.specs.Sizes.{area}
+use Rattle.answers.specs.Sizes.{side}
+use Rattle.plane.specs.declared.Plane.{Plane}
+use Rattle.plane.specs.Place.{written}
+use Rattle.vbk_read.specs.declared.Head.{Head}
 use Rattle.vbk_read.specs.Header.{versionOf, depthOf, widthOf, heightOf, samplesOf, firstRecord, headerAnswer}
 use Rattle.vbk_read.specs.Records.{sizeAt, losslessAt, headAt, tokensAt, found, endAnswer, ends, readOn}
 use Rattle.vbk_text.specs.Text.{Outcome, refused, ran}
@@ -38,9 +41,13 @@ andThen answer touched rest =
 abbrev pub RECORD_LIMIT : ℕ
 RECORD_LIMIT = 874
 
--- the touched count of a record: n0² where its answer is 0
-unfoldable pub touchedBy : ℕ → ℕ → ℕ
-touchedBy answer size = cond (eqb answer 0) (area (size + 2)) 0
+-- the touched count of a record in a plane: the samples written where its answer is 0
+unfoldable pub touchedBy : ℕ → Plane → Head → ℕ
+touchedBy answer p head = cond (eqb answer 0) (written p (head .x) (head .y) (side (head .size + 2))) 0
+
+-- the plane of a file
+abbrev pub planeOf : List ℕ → Plane
+planeOf s = record { width = widthOf s; height = heightOf s }
 
 module _ (R : Reconstruction) (s : List ℕ) where
   -- reconstruction with the numbers of the record at a place
@@ -61,7 +68,7 @@ module _ (R : Reconstruction) (s : List ℕ) where
   records zero at samples = noRecord samples
   records (suc k) at samples =
       cond (found s at)
-      (andThen (recordAt at samples .answer) (touchedBy (recordAt at samples .answer) (sizeAt s at)) (records k (readOn s at) (recordAt at samples .samples)))
+      (andThen (recordAt at samples .answer) (touchedBy (recordAt at samples .answer) (planeOf s) (headAt s at)) (records k (readOn s at) (recordAt at samples .samples)))
       (noRecord samples)
 
   -- a file has fewer records than bytes

@@ -33,15 +33,18 @@ pub fn number8(a: Answer) -> u8
     answers::code(a) as u8
 }
 
-// The touched count: n0² for an answer 0.
-pub fn touched_by(answer: u8, size: u8) -> usize
-    requires { ⌜ size ≤ 3 ⌝ }
-    ensures { λ r. ⌜ r ≡ touchedBy answer size ⌝ }
+// The touched count: the samples written, for an answer 0.
+pub fn touched_by(answer: u8, fields: Fields, head: Head) -> usize
+    requires { ⌜ head .size ≤ 3 ⌝ }
+    ensures { λ r. ⌜ r ≡ touchedBy answer (record { width = fields .width; height = fields .height }) head ⌝ }
 {
-    if answer == 0 {
-        return answers::area(size as u32 + 2);
+    if answer != 0 {
+        return 0;
     }
-    0
+    let n0 = answers::side(head.size as u32 + 2);
+    let rows = plane::cut(fields.height as usize, head.y as usize, n0);
+    let cols = plane::cut(fields.width as usize, head.x as usize, n0);
+    rows * cols
 }
 
 pub fn quantizer(q: u16) -> i32
@@ -114,7 +117,7 @@ fn one_record(
     answers[count] = answer;
     Tally {
         count: count + 1,
-        touched: tally.touched + touched_by(answer, record.head.size),
+        touched: tally.touched + touched_by(answer, fields, record.head),
     }
 }
 

@@ -12,8 +12,8 @@ use Rattle.report.specs.Classes.{one, itself}
 use Rattle.report.specs.Report.{Input, badTotal, badSums, answerOf, samplesAfter, listAfter}
 use Rattle.report.proofs.Table.{passes, fails, fifteen, no-fifteen, same-samples}
 use Rattle.vbk_read.specs.Header.{planeArea, samplesOf, firstRecord}
-use Rattle.vbk_read.specs.Records.{sizeAt, losslessAt, endAnswer, ends, readOn}
-use Rattle.vbk.specs.Replay.{After, Rebuilt, andThen, touchedBy, rebuildAt, rebuiltAt, recordAt, records, recordsOf}
+use Rattle.vbk_read.specs.Records.{losslessAt, headAt, endAnswer, ends, readOn}
+use Rattle.vbk.specs.Replay.{After, Rebuilt, andThen, touchedBy, planeOf, rebuildAt, rebuiltAt, recordAt, records, recordsOf}
 use Rattle.vbk.specs.Filled.{reconstruction}
 use Rattle.vbk.specs.Promises.{runOf, runAnswer, Replayed}
 use Rattle.vbk.specs.declared.Run.{Run}
@@ -101,7 +101,7 @@ same-from s (suc k) at l h = go (decLt at (length s)) (same-from s k (readOn s a
         let e = same-record s at l (w 0 (omega arith)) in
         let i = ih (λ j q. w (suc j) (omega arith)) in
         rw (m, records-more reconstruction s k at (samplesIn l) f)
-        (same-more (e .answer-is) (ap (λ (a : ℕ). touchedBy a (sizeAt s at)) (e .answer-is)) (rw (e .samples-are) at i))
+        (same-more (e .answer-is) (ap (λ (a : ℕ). touchedBy a (planeOf s) (headAt s at)) (e .answer-is)) (rw (e .samples-are) at i))
 
 pub same-run : (s counts sums : List ℕ) → Without15 (reportRun s counts sums .answers) → SameRun (reportRun s counts sums) (runOf s)
 unfolding reportRun recordsOf

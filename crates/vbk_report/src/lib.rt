@@ -100,7 +100,7 @@ fn one_record(
     answers[count] = answer;
     Tally {
         count: count + 1,
-        touched: tally.touched + vbk::touched_by(answer, record.head.size),
+        touched: tally.touched + vbk::touched_by(answer, fields, record.head),
     }
 }
 
