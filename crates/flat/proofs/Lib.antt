@@ -1,5 +1,6 @@
 mod Three
 mod Table
+mod Exchange
 mod Straight
 mod Four
 mod Arrays

@@ -1,9 +1,10 @@
 ghost use mathlib.Core.Path.{_≡_};
-ghost use Prim.Native.Nat.{ℕ, _+_, _^_, _≤_, _<_};
+ghost use Prim.Native.Nat.{ℕ, _+_, _*_, _^_, _≤_, _<_};
 ghost use lib.ListN.{length, getD};
 ghost use Rattle.whole.specs.Steps.{run};
 ghost use Rattle.whole.specs.Inner.{Ok};
 ghost use Rattle.whole.specs.Within.{Within};
+ghost use Rattle.primitives.specs.Brev.{Brev};
 ghost use Rattle.primitives.specs.Rotations.{turnX, turnY};
 ghost use Rattle.steps.specs.Step.{Bf, Hd, Neg, Move, step};
 ghost use Rattle.steps.specs.Inner.{Fine, Fine2};
@@ -11,202 +12,6 @@ ghost use Rattle.steps.specs.Step2.{SB, SH, step2, fresh};
 ghost use Rattle.dct.specs.Dct.{tail, dctRow, dct};
 ghost use Rattle.adst.specs.Adst.{adstIn, adstOut, adstSteps, adst};
 ghost use Rattle.adst.specs.Inner.{arrays};
-
-// Entry 32 n + i is brev(n, i) for n of 2 to 5 and i below 2^n; the rest are zeros.
-const BREV: [usize; 192] = [
-    0,
-    0,
-    0,
-    0,
-    0,
-    0,
-    0,
-    0,
-    0,
-    0,
-    0,
-    0,
-    0,
-    0,
-    0,
-    0,
-    0,
-    0,
-    0,
-    0,
-    0,
-    0,
-    0,
-    0,
-    0,
-    0,
-    0,
-    0,
-    0,
-    0,
-    0,
-    0,
-    0,
-    0,
-    0,
-    0,
-    0,
-    0,
-    0,
-    0,
-    0,
-    0,
-    0,
-    0,
-    0,
-    0,
-    0,
-    0,
-    0,
-    0,
-    0,
-    0,
-    0,
-    0,
-    0,
-    0,
-    0,
-    0,
-    0,
-    0,
-    0,
-    0,
-    0,
-    0,
-    0,
-    2,
-    1,
-    3,
-    0,
-    0,
-    0,
-    0,
-    0,
-    0,
-    0,
-    0,
-    0,
-    0,
-    0,
-    0,
-    0,
-    0,
-    0,
-    0,
-    0,
-    0,
-    0,
-    0,
-    0,
-    0,
-    0,
-    0,
-    0,
-    0,
-    0,
-    0,
-    0,
-    4,
-    2,
-    6,
-    1,
-    5,
-    3,
-    7,
-    0,
-    0,
-    0,
-    0,
-    0,
-    0,
-    0,
-    0,
-    0,
-    0,
-    0,
-    0,
-    0,
-    0,
-    0,
-    0,
-    0,
-    0,
-    0,
-    0,
-    0,
-    0,
-    0,
-    0,
-    0,
-    8,
-    4,
-    12,
-    2,
-    10,
-    6,
-    14,
-    1,
-    9,
-    5,
-    13,
-    3,
-    11,
-    7,
-    15,
-    0,
-    0,
-    0,
-    0,
-    0,
-    0,
-    0,
-    0,
-    0,
-    0,
-    0,
-    0,
-    0,
-    0,
-    0,
-    0,
-    0,
-    16,
-    8,
-    24,
-    4,
-    20,
-    12,
-    28,
-    2,
-    18,
-    10,
-    26,
-    6,
-    22,
-    14,
-    30,
-    1,
-    17,
-    9,
-    25,
-    5,
-    21,
-    13,
-    29,
-    3,
-    19,
-    11,
-    27,
-    7,
-    23,
-    15,
-    31,
-];
 
 // Both values of B before rounding, by three products: (p + q) c stands in both. Where sine and cosine agree up to the sign, two are left.
 fn turn(p: i64, q: i64, angle: i32) -> primitives::Rotated
@@ -247,14 +52,22 @@ fn fh(t: &mut [i64; 32], a: usize, b: usize, flip: bool)
     primitives::hadamard(t, a, b, flip);
 }
 
-// t[i] = copy_t[from[at + i]] for i below n0. The table is lent: it folds away where the caller has it whole.
-fn reorder(t: &mut [i64; 32], from: &[usize], at: usize, n0: usize)
-    requires { ⌜ (n0 ≤ 32) × (at + n0 ≤ length (now from)) × ((i : ℕ) → i < n0 → getD (now from) (at + i) 0 < 32) ⌝ }
-    ensures { λ _. ⌜ now (t .exit) ≡ step (Move n0 (λ i. getD (now (from .entry)) (at + i) 0)) (now (t .entry)) ⌝ }
+// The permutation of the DCT, in place: t[i] and t[brev(n, i)] change places for each of the 2^n = h k numbers i below its reverse, so each
+// pair once. Where n, h and k are literals, two loops of few turns unroll and every index folds; one of 32 turns would not.
+fn permute(t: &mut [i64; 32], n: u32, h: usize, k: usize)
+    requires { ⌜ (n ≤ 5) × (h * k ≡ 2 ^ n) ⌝ }
+    ensures { λ _. ⌜ now (t .exit) ≡ step (Move (2 ^ n) (Brev n)) (now (t .entry)) ⌝ }
 {
-    let copy_t = *t;
-    for i in 0..n0 {
-        t[i] = copy_t[from[at + i]];
+    for a in 0..h {
+        for b in 0..k {
+            let i = k * a + b;
+            let j = primitives::brev(n, i);
+            if i < j {
+                let x = t[i];
+                t[i] = t[j];
+                t[j] = x;
+            }
+        }
     }
 }
 
@@ -387,8 +200,7 @@ pub fn idct_fast2(t: &mut [i64; 32])
     requires { ⌜ Ok step (Fine (2 ^ 46)) (dctRow 2) (now t) ⌝ }
     ensures { λ _. ⌜ now (t .exit) ≡ dct 2 (now (t .entry)) ⌝ }
 {
-    let brev = BREV;
-    reorder(t, &brev, 64, 4);
+    permute(t, 2, 2, 2);
     fb(t, 0, 1, 16, true);
     dct_level2(t);
 }
@@ -398,8 +210,7 @@ pub fn idct_fast3(t: &mut [i64; 32])
     requires { ⌜ Ok step (Fine (2 ^ 46)) (dctRow 3) (now t) ⌝ }
     ensures { λ _. ⌜ now (t .exit) ≡ dct 3 (now (t .entry)) ⌝ }
 {
-    let brev = BREV;
-    reorder(t, &brev, 96, 8);
+    permute(t, 3, 2, 4);
     fb(t, 0, 1, 16, true);
     dct_level2(t);
     dct_level3(t);
@@ -410,8 +221,7 @@ pub fn idct_fast4(t: &mut [i64; 32])
     requires { ⌜ Ok step (Fine (2 ^ 46)) (dctRow 4) (now t) ⌝ }
     ensures { λ _. ⌜ now (t .exit) ≡ dct 4 (now (t .entry)) ⌝ }
 {
-    let brev = BREV;
-    reorder(t, &brev, 128, 16);
+    permute(t, 4, 4, 4);
     fb(t, 0, 1, 16, true);
     dct_level2(t);
     dct_level3(t);
@@ -423,8 +233,7 @@ pub fn idct_fast5(t: &mut [i64; 32])
     requires { ⌜ Ok step (Fine (2 ^ 46)) (dctRow 5) (now t) ⌝ }
     ensures { λ _. ⌜ now (t .exit) ≡ dct 5 (now (t .entry)) ⌝ }
 {
-    let brev = BREV;
-    reorder(t, &brev, 160, 32);
+    permute(t, 5, 8, 4);
     fb(t, 0, 1, 16, true);
     dct_level2(t);
     dct_level3(t);
@@ -463,6 +272,17 @@ fn fneg(t: &mut [i64; 32], i: usize)
     ensures { λ _. ⌜ now (t .exit) ≡ step (Neg i) (now (t .entry)) ⌝ }
 {
     t[i] = -t[i];
+}
+
+// t[i] = copy_t[from[at + i]] for i below n0. The table is lent: it folds away where the caller has it whole.
+fn reorder(t: &mut [i64; 32], from: &[usize], at: usize, n0: usize)
+    requires { ⌜ (n0 ≤ 32) × (at + n0 ≤ length (now from)) × ((i : ℕ) → i < n0 → getD (now from) (at + i) 0 < 32) ⌝ }
+    ensures { λ _. ⌜ now (t .exit) ≡ step (Move n0 (λ i. getD (now (from .entry)) (at + i) 0)) (now (t .entry)) ⌝ }
+{
+    let copy_t = *t;
+    for i in 0..n0 {
+        t[i] = copy_t[from[at + i]];
+    }
 }
 
 // The permutation into ADST8. It and the next three are functions of their own, so that the loop unrolls before it meets the calls around it.

@@ -14,7 +14,6 @@ use Rattle.steps.specs.Step.{Step, Bf, Move, step}
 use Rattle.steps.specs.Inner.{Fine}
 use Rattle.dct.specs.Dct.{dct, dctRow, dctSteps, tail, tailAt, steps2, steps3, steps4, steps5, steps6, steps7}
 use Rattle.flat.proofs.Straight.{Done, begin, call, next, end, joined, run-joined, ok-joined, alone}
-use Rattle.flat.proofs.Table.{brevs, brev-place, brev-move}
 use Rattle.flat.proofs.idct_fast2.Statement.{statement}
 use Rattle.flat.proofs.idct_fast2.Tie as tie
 
@@ -32,22 +31,14 @@ At k = Done (run step) (Ok step (Fine (2 ^ 46))) parts k
 abbrev at0 : tie.Start → At 0
 at0 c = begin (ok-joined step parts (subst (λ (ss : List Step). Ok step (Fine (2 ^ 46)) ss (c .args .t .now)) all (c .pre)))
 
-moved : (c : tie.After-reorder) → c .reorder .last .0 ≡ run step (Move 4 (Brev 2) ∷ []) (c .before .before .before .args .t .now)
-unfolding brevs
-moved c = alone step (c .reorder .ensures ∙ brev-move 2 (lit≤ tt) (lit< tt) (lit≤ tt) (c .before .before .before .args .t .now))
-
-abbrev at1 : tie.After-reorder → At 1
-at1 c = next [] (at0 (c .before .before .before)) (lit< tt) (moved c)
+abbrev at1 : tie.After-permute → At 1
+at1 c = next [] (at0 (c .before .before)) (lit< tt) (alone step (c .permute .ensures))
 
 abbrev at2 : tie.After-fb → At 2
 at2 c = next [] (at1 (c .before .before)) (lit< tt) (alone step (c .fb .ensures))
 
 abbrev at3 : tie.After-dct-level2 → At 3
 at3 c = next [] (at2 (c .before .before)) (lit< tt) (c .dct-level2 .ensures)
-
-reorder-requires : tie.Need-reorder-requires
-unfolding brevs
-reorder-requires c κs = (lit≤ tt, lit≤ tt, brev-place 2 (lit≤ tt) (lit< tt) (lit≤ tt))
 
 returns : tie.Need-returns
 unfolding dct
@@ -59,8 +50,7 @@ pub idct-fast2-spec : {M : Type 1} → statement M
 idct-fast2-spec =
     tie.close
     (tie.spec
-    (λ c. search needs)
-    reorder-requires
+    (λ c κs. (lit≤ tt, refl))
     (λ c κs. ok-here (call [] (at1 (c .before)) (lit< tt)))
     (λ c κs. call [] (at2 (c .before)) (lit< tt))
     returns)
