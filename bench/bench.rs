@@ -19,6 +19,11 @@ mod ours {
     pub fn inverse_transform_2d(block: &mut [i64], n: u32, tx_type: u8, lossless: bool) -> u32 {
         unsafe { c::bracetwill_inverse_transform_2d(block.as_mut_ptr(), block.len(), n, tx_type, lossless) }
     }
+    pub fn inverse_transform_2d_rows(block: &mut [i64], n: u32, tx_type: u8, lossless: bool) -> u32 {
+        let mut rows = 0;
+        unsafe { c::bracetwill_inverse_transform_2d_rows(block.as_mut_ptr(), block.len(), n, tx_type, lossless, &mut rows) };
+        rows
+    }
     #[allow(clippy::too_many_arguments)]
     pub fn reconstruct_block(
         samples: &mut [u16],
@@ -122,8 +127,9 @@ fn name(n0: usize, (ty, lossless): (u8, bool), density: usize) -> String {
     format!("{n0:>2} x {n0:<2} | {kind:<3} | {:<6}", DENSITY[density])
 }
 
+/// The last three columns are the call that counts its row transforms, and how many of these a block has in the mean.
 fn driver(rounds: usize, only: &str) {
-    println!("2D driver\n| block   | type | density | Rust ns | ours ns | ours / Rust |");
+    println!("2D driver\n| block   | type | density | Rust ns | ours ns | ours / Rust | with rows ns | with / without | rows |");
     for n in 2..=5u32 {
         let n0 = 1usize << n;
         for &(ty, lossless) in kinds(n) {
@@ -148,13 +154,22 @@ fn driver(rounds: usize, only: &str) {
                         ours::inverse_transform_2d(black_box(b), black_box(n), black_box(ty), black_box(lossless));
                     }
                 };
+                let transformed = std::cell::Cell::new(0);
+                let mut counting = || {
+                    let mut w = work.borrow_mut();
+                    let rows = w.chunks_exact_mut(n0 * n0).map(|b| ours::inverse_transform_2d_rows(black_box(b), black_box(n), black_box(ty), black_box(lossless)));
+                    transformed.set(rows.sum());
+                };
                 theirs();
                 let want = work.borrow().clone();
-                work.borrow_mut().copy_from_slice(&input);
-                own();
-                assert!(want == *work.borrow(), "the results differ: {name}");
-                let t = measure(rounds, count, || work.borrow_mut().copy_from_slice(&input), &mut [&mut theirs, &mut own]);
-                println!("| {name} | {:.1} | {:.1} | {:.2} |", t[0], t[1], t[1] / t[0]);
+                for side in [&mut own as &mut dyn FnMut(), &mut counting] {
+                    work.borrow_mut().copy_from_slice(&input);
+                    side();
+                    assert!(want == *work.borrow(), "the results differ: {name}");
+                }
+                let t = measure(rounds, count, || work.borrow_mut().copy_from_slice(&input), &mut [&mut theirs, &mut own, &mut counting]);
+                let rows = f64::from(transformed.get()) / count as f64;
+                println!("| {name} | {:.1} | {:.1} | {:.2} | {:.1} | {:.2} | {rows:.1} |", t[0], t[1], t[1] / t[0], t[2], t[2] / t[1]);
             }
         }
     }

@@ -7,7 +7,8 @@
  * Numbers are never the caller's fault: any value of a number is answered, and a refusal leaves all that was lent as it was. What C has to
  * see to is the memory. A list is handed over as a pointer and then how many numbers lie there:
  *  - the pointer is aligned for its type and points to that many numbers, all of them set; where there are none it may be NULL;
- *  - a list that is not const is written to, and shares no memory with any other list of the same call.
+ *  - a list that is not const is written to, and shares no memory with any other list of the same call;
+ *  - a pointer with no length behind it points to one number, or to as many as stand in its brackets, and is never NULL.
  *
  * What the numbers are:
  *  - tokens and coefficients of a block stand in raster order, row by row, and not in scan order: a decoder that reads them in scan order
@@ -46,9 +47,9 @@ extern "C" {
 #endif
 
 /* made by bindings/write from answers.txt */
-/* The answers. A call gives the lowest number that applies, over the whole input. A VBK file has an order of its own, and the first check
- * that fails is its answer: the header 13 (bytes), 12 (fewer than 10), 10, 11, 1, 13 (width times height), 12 (samples); a record 12 (fewer
- * than 11 bytes), 2, 12 (tokens), 14, then that of the reconstruction. docs/REFERENCE.md has every number. */
+/* The answers. A call gives the lowest number that applies, over the whole input, but that 16 comes before 8. A VBK file has an order of its
+ * own, and the first check that fails is its answer: the header 13 (bytes), 12 (fewer than 10), 10, 11, 1, 13 (width times height), 12
+ * (samples); a record 12 (fewer than 11 bytes), 2, 12 (tokens), 14, then that of the reconstruction. docs/REFERENCE.md has every number. */
 enum bracetwill_answer {
   BRACETWILL_ANSWER_DONE = 0,
   BRACETWILL_ANSWER_DEPTH = 1,
@@ -65,7 +66,8 @@ enum bracetwill_answer {
   BRACETWILL_ANSWER_CUT_SHORT = 12,
   BRACETWILL_ANSWER_TOO_LARGE = 13,
   BRACETWILL_ANSWER_LOSSLESS_BYTE = 14,
-  BRACETWILL_ANSWER_REPORT = 15
+  BRACETWILL_ANSWER_REPORT = 15,
+  BRACETWILL_ANSWER_PLACE = 16
 };
 
 /* An answer in words, the same that every other part of the product says; never NULL. */
@@ -87,6 +89,7 @@ static inline const char *bracetwill_answer_meaning(uint32_t answer) {
   case BRACETWILL_ANSWER_TOO_LARGE: return "VBK: file above 65,535 bytes, or width times height not 1 to 4,096";
   case BRACETWILL_ANSWER_LOSSLESS_BYTE: return "VBK: a record's lossless byte above 1";
   case BRACETWILL_ANSWER_REPORT: return "the block takes the total of all counts past 4,294,967,295, or a class sum is above its count times 262,210";
+  case BRACETWILL_ANSWER_PLACE: return "the place is at or past the block's end";
   default: return "no answer has this number";
   }
 }
@@ -122,6 +125,39 @@ uint32_t bracetwill_inverse_transform_2d(int64_t *block, size_t block_len, uint3
 /* The same by the specification's recursive processes: the same answer and the same block always, more slowly. */
 BRACETWILL_NODISCARD
 uint32_t bracetwill_inverse_transform_2d_reference(int64_t *block, size_t block_len, uint32_t n, uint8_t tx_type, bool lossless);
+
+/* A row summary is 32 bits beside a block of coefficients: bit i is set when row i holds a number that is not 0, and no other bit is set. */
+
+/* The summary of a block of n0 rows, n0 = 2^n and n 2 to 5, whose n0 * n0 coefficients stand row by row at the front of the list; what lies
+ * past them is not looked at. Any coefficient is taken. Answers 0, 2 (n), 6 (fewer than n0 * n0); under a refusal *summary stays. */
+BRACETWILL_NODISCARD
+uint32_t bracetwill_row_summary(const int64_t *block, size_t block_len, uint32_t n, uint32_t *summary);
+
+/* How many rows hold anything, from the summary alone: 0 to 32. Any number is taken. */
+BRACETWILL_NODISCARD
+uint32_t bracetwill_row_count(uint32_t summary);
+
+/* The first row that holds anything, 0 to 31; -1 where the summary is empty and there is none. */
+BRACETWILL_NODISCARD
+int32_t bracetwill_first_row(uint32_t summary);
+
+/* The last row that holds anything, 0 to 31; -1 where the summary is empty and there is none. */
+BRACETWILL_NODISCARD
+int32_t bracetwill_last_row(uint32_t summary);
+
+/* One token of a dequantized block is another: its coefficient goes to its place, and the bit of that row is worked out again; every other
+ * coefficient and every other bit stays, whatever it was. So the summary of a block stays its summary. tx_sz is 0 to 3 for 4, 8, 16 and 32;
+ * dc_quant is for place 0, ac_quant for all others. Answers, the first of them that applies: 0, 1, 2, 5, 6 (not n0 * n0 coefficients),
+ * 16 (place at or past n0 * n0), 8, 9. 8 and 9 are of the new token alone. */
+BRACETWILL_NODISCARD
+uint32_t bracetwill_replace_token(int64_t *block, size_t block_len, uint32_t *summary, uint32_t tx_sz, size_t place, int64_t token,
+                                  int32_t dc_quant, int32_t ac_quant, uint32_t bit_depth);
+
+/* bracetwill_inverse_transform_2d, which besides says how many rows it transformed: those that hold a number that is not 0, lossless too, and 0
+ * where nothing but the coefficient at place 0 can be other than 0, tx_type is 0 and lossless is not set. Answers as
+ * bracetwill_inverse_transform_2d; under a refusal *rows stays. */
+BRACETWILL_NODISCARD
+uint32_t bracetwill_inverse_transform_2d_rows(int64_t *block, size_t block_len, uint32_t n, uint8_t tx_type, bool lossless, uint32_t *rows);
 
 /* A block's tokens are dequantized and transformed, and the residual is added to the samples at column x and row y and on, each clipped to
  * the depth, cut to the plane. Samples stand row by row, width * height of them. tx_sz is 0 to 3 for 4, 8, 16 and 32; tokens are n0 * n0.

@@ -1,5 +1,5 @@
 /* A lossless block into a plane of 100s, and back: the source that the forward WHT was given comes out of reconstruction. Then the same with a
- * report of its tokens beside it. */
+ * report of its tokens beside it; then which rows of a block of coefficients hold anything, and how many of them are transformed. */
 #include "bracetwill.h"
 #include <stdio.h>
 
@@ -35,6 +35,17 @@ int main(void) {
   for (int class = 0; class < BRACETWILL_CLASSES; class++)
     if (counts[class] != 0) printf("C 0 %d %u %u\n", class, (unsigned)counts[class], (unsigned)sums[class]);
 
-  /* the same at a depth that there is not: the plane stays */
+  /* coefficients in rows 0 and 2; then the token of place 9, in row 2, is 0, and the summary follows without another scan of the block */
+  int64_t rows[16] = {40, 8};
+  uint32_t summary, transforms;
+  rows[9] = -12;
+  if (refused("summary", bracetwill_row_summary(rows, 16, 2, &summary))) return 1;
+  printf("rows %u, first %d, last %d\n", (unsigned)bracetwill_row_count(summary), (int)bracetwill_first_row(summary), (int)bracetwill_last_row(summary));
+  if (refused("replacement", bracetwill_replace_token(rows, 16, &summary, 0, 9, 0, 8, 4, 8))) return 1;
+  printf("rows %u, first %d, last %d\n", (unsigned)bracetwill_row_count(summary), (int)bracetwill_first_row(summary), (int)bracetwill_last_row(summary));
+  if (refused("driver", bracetwill_inverse_transform_2d_rows(rows, 16, 2, BRACETWILL_DCT_DCT, false, &transforms))) return 1;
+  printf("row transforms %u\n", (unsigned)transforms);
+
+  /* the block of above at a depth that there is not: the plane stays */
   return !refused("reconstruction", bracetwill_reconstruct_block(plane, 8 * 4, 8, 4, 4, 0, 0, block, 16, 4, 4, BRACETWILL_DCT_DCT, true, 9));
 }

@@ -106,6 +106,203 @@ static void drivers_agree(void) {
       }
 }
 
+/* The driver that counts its row transforms, as the others are called: under a refusal the room for the number stays. */
+static uint32_t row_transforms;
+
+static uint32_t driver_rows(int64_t *block, size_t len, uint32_t n, uint8_t type, bool lossless) {
+  row_transforms = 777;
+  const uint32_t answer = bracetwill_inverse_transform_2d_rows(block, len, n, type, lossless, &row_transforms);
+  check((row_transforms == 777) == (answer != BRACETWILL_ANSWER_DONE), "rows: under a refusal the number stays", row_transforms, answer);
+  return answer;
+}
+
+/* The numbers in these rows, in a column of each. */
+static void rows_of(uint32_t n, uint32_t rows, size_t column, int64_t value) {
+  zeros();
+  for (size_t i = 0; i < (size_t)1 << n; i++)
+    if (rows >> i & 1) list[(i << n) + column] = value;
+}
+
+/* Every row alone, none, all, the lower half; of four rows every pattern. */
+static uint32_t pattern(uint32_t n, uint32_t k) {
+  const uint32_t side = UINT32_C(1) << n, all = UINT32_MAX >> (32 - side);
+  if (n == 2) return k;
+  return k < side ? UINT32_C(1) << k : k == side ? 0 : k == side + 1 ? all : all >> side / 2;
+}
+
+static uint32_t patterns(uint32_t n) { return n == 2 ? 16 : (UINT32_C(1) << n) + 3; }
+
+/* What a summary says of itself is what its bits show one after the other. */
+static void summary_says(uint32_t summary) {
+  int count = 0, first = -1, last = -1;
+  for (int i = 0; i < 32; i++)
+    if (summary >> i & 1) {
+      count++;
+      if (first < 0) first = i;
+      last = i;
+    }
+  equal(bracetwill_row_count(summary), count, "summary: how many rows");
+  equal(bracetwill_first_row(summary), first, "summary: the first row");
+  equal(bracetwill_last_row(summary), last, "summary: the last row");
+}
+
+static void summary_refused(const int64_t *block, size_t len, uint32_t n, uint32_t want, const char *what) {
+  uint32_t summary = 0xa5a5a5a5;
+  equal(bracetwill_row_summary(block, len, n, &summary), want, what);
+  equal(summary, 0xa5a5a5a5, what);
+}
+
+/* The rows of a block, and as many row transforms: 0 of a block that place 0 alone can be live in. */
+static void summaries(void) {
+  for (uint32_t n = 2; n <= 5; n++) {
+    const size_t side = (size_t)1 << n, count = side << n;
+    for (uint32_t k = 0; k < patterns(n); k++)
+      for (size_t column = 0; column < side; column += side - 1) {
+        const uint32_t rows = pattern(n, k);
+        uint32_t summary = ~rows;
+        rows_of(n, rows, column, column == 0 ? 9 : INT64_MIN);
+        list[count] = 1;
+        equal(bracetwill_row_summary(list, count + column, n, &summary), BRACETWILL_ANSWER_DONE, "summary: done");
+        equal(summary, rows, "summary: the bits");
+        summary_says(summary);
+        for (uint8_t type = 0; type < (n == 5 ? 1 : 4); type++) {
+          rows_of(n, rows, column, 9);
+          const bool alone = type == 0 && (rows == 0 || (rows == 1 && column == 0));
+          equal(driver_rows(list, count, n, type, false), BRACETWILL_ANSWER_DONE, "rows: done");
+          equal(row_transforms, alone ? 0 : bracetwill_row_count(rows), "rows: how many");
+        }
+        if (n != 2) continue;
+        rows_of(n, rows, column, 9);
+        equal(driver_rows(list, count, n, 255, true), BRACETWILL_ANSWER_DONE, "rows: lossless, done");
+        equal(row_transforms, bracetwill_row_count(rows), "rows: lossless, how many");
+      }
+    summary_refused(list, count - 1, n, BRACETWILL_ANSWER_LENGTH, "summary: one short");
+  }
+  const uint32_t sizes[] = {0, 1, 6, 7, 32, UINT32_MAX};
+  for (size_t k = 0; k < 6; k++) summary_refused(list, 0, sizes[k], BRACETWILL_ANSWER_SIZE, "summary: n");
+  summary_refused(NULL, 0, 2, BRACETWILL_ANSWER_LENGTH, "summary: no list");
+  for (int i = 0; i < 32; i++) {
+    summary_says(UINT32_C(1) << i);
+    summary_says(UINT32_MAX >> i);
+    summary_says(UINT32_MAX << i);
+    summary_says(~(UINT32_C(1) << i));
+  }
+  summary_says(0);
+}
+
+/* What a replacement is handed beside the block. */
+struct replacement {
+  size_t block_len;
+  uint32_t tx_sz;
+  size_t place;
+  int64_t token;
+  int32_t dc_quant, ac_quant;
+  uint32_t bit_depth;
+};
+
+static uint32_t replace(struct replacement c, uint32_t *summary) {
+  return bracetwill_replace_token(list, c.block_len, summary, c.tx_sz, c.place, c.token, c.dc_quant, c.ac_quant, c.bit_depth);
+}
+
+/* The coefficient in its place, that row's bit anew, and nothing else. */
+static void replaced(struct replacement c, uint32_t summary, int64_t coefficient, uint32_t want, const char *what) {
+  copy(before, list, sizeof list);
+  before[c.place] = coefficient;
+  equal(replace(c, &summary), BRACETWILL_ANSWER_DONE, what);
+  check(same(list, before, sizeof list), what, -1, (long long)c.place);
+  check(summary == want, what, summary, want);
+}
+
+static void replace_refused(struct replacement c, uint32_t want, const char *what) {
+  uint32_t summary = 0x5a5a5a5a;
+  filled(0, INT64_MAX);
+  equal(replace(c, &summary), want, what);
+  check(same(list, before, sizeof list), what, -1, 0);
+  equal(summary, 0x5a5a5a5a, what);
+}
+
+static void replacements(void) {
+  for (uint32_t size = 0; size <= 3; size++) {
+    const uint32_t n = size + 2;
+    const size_t side = (size_t)1 << n, count = side << n;
+    const size_t places[] = {0, side - 1, count - side, count - 1};
+    for (size_t k = 0; k < 4; k++) {
+      const uint32_t bit = UINT32_C(1) << places[k] / side;
+      struct replacement c = {count, size, places[k], 6, 5, 7, 8};
+      const int64_t coefficient = 6 * (places[k] == 0 ? 5 : 7) / (size == 3 ? 2 : 1);
+      zeros();
+      replaced(c, 0, coefficient, bit, "replace: a row that was empty");
+      /* a summary that is not the block's own: every other bit stays, whatever it was */
+      replaced(c, UINT32_MAX, coefficient, UINT32_MAX, "replace: the row's bit stays set");
+      replaced(c, ~bit, coefficient, UINT32_MAX, "replace: the row's bit alone is set");
+      c.token = 0;
+      replaced(c, UINT32_MAX, 0, ~bit, "replace: a row that becomes empty");
+      replaced(c, bit, 0, 0, "replace: zero for zero");
+      list[places[k] ^ 1] = -1;
+      replaced(c, 0, 0, bit, "replace: a row that holds another number");
+      /* a token that is not 0 with a coefficient that is */
+      zeros();
+      c.token = -1;
+      c.dc_quant = c.ac_quant = 1;
+      replaced(c, bit, size == 3 ? 0 : -1, size == 3 ? 0 : bit, "replace: the summary is of coefficients");
+      uint32_t afresh = 0;
+      equal(bracetwill_row_summary(list, count, n, &afresh), BRACETWILL_ANSWER_DONE, "replace: afresh");
+      equal(afresh, size == 3 ? 0 : bit, "replace: the summary worked out afresh");
+    }
+  }
+}
+
+/* Each number alone, and each before the next in the order 1, 2, 5, 6, 16, 8, 9. */
+static void replace_refuses(void) {
+  struct replacement c = {16, 0, 15, 16450, 1, 8160, 8};
+  replace_refused(c, BRACETWILL_ANSWER_COEFFICIENT, "replace: AC beyond");
+  c.token = -16451;
+  replace_refused(c, BRACETWILL_ANSWER_TOKEN, "replace: token before coefficient");
+  c.token = INT64_MIN;
+  replace_refused(c, BRACETWILL_ANSWER_TOKEN, "replace: the least number");
+  c.place = 16;
+  replace_refused(c, BRACETWILL_ANSWER_PLACE, "replace: place before token");
+  c.place = SIZE_MAX;
+  replace_refused(c, BRACETWILL_ANSWER_PLACE, "replace: the greatest place");
+  c.block_len = 15;
+  replace_refused(c, BRACETWILL_ANSWER_LENGTH, "replace: one short, before place");
+  c.block_len = 17;
+  replace_refused(c, BRACETWILL_ANSWER_LENGTH, "replace: one more");
+  c.ac_quant = 0;
+  replace_refused(c, BRACETWILL_ANSWER_QUANTIZER, "replace: AC 0 before length");
+  c.tx_sz = 4;
+  replace_refused(c, BRACETWILL_ANSWER_SIZE, "replace: size before quantizer");
+  c.bit_depth = 9;
+  replace_refused(c, BRACETWILL_ANSWER_DEPTH, "replace: depth before size");
+  const struct replacement good = {16, 0, 0, 16450, 8159, 1, 8};
+  c = good;
+  c.dc_quant = 8160;
+  replace_refused(c, BRACETWILL_ANSWER_COEFFICIENT, "replace: DC beyond, alone");
+  c = good;
+  c.token = 16451;
+  replace_refused(c, BRACETWILL_ANSWER_TOKEN, "replace: token alone");
+  c = good;
+  c.place = 16;
+  replace_refused(c, BRACETWILL_ANSWER_PLACE, "replace: place alone");
+  c = good;
+  c.block_len = 64;
+  replace_refused(c, BRACETWILL_ANSWER_LENGTH, "replace: length alone");
+  c = good;
+  c.ac_quant = 32768;
+  replace_refused(c, BRACETWILL_ANSWER_QUANTIZER, "replace: a quantizer that is not this place's");
+  c = good;
+  c.tx_sz = UINT32_MAX;
+  replace_refused(c, BRACETWILL_ANSWER_SIZE, "replace: size alone");
+  c = good;
+  c.bit_depth = 0;
+  replace_refused(c, BRACETWILL_ANSWER_DEPTH, "replace: depth alone");
+  /* the limit is taken, the other quantizer is not asked, and what else the block holds is not either */
+  filled(1, INT64_MAX);
+  c = good;
+  c.ac_quant = 32767;
+  replaced(c, 0, INT64_C(16450) * 8159, 1, "replace: the limit");
+}
+
 /* What reconstruction is handed. */
 struct call {
   size_t samples_len, width, height, x, y;
@@ -616,8 +813,8 @@ static void records_answered(void) {
 }
 
 static void meanings(void) {
-  for (uint32_t k = 0; k <= BRACETWILL_ANSWER_REPORT; k++)
-    for (uint32_t j = 0; j <= BRACETWILL_ANSWER_REPORT + 1; j++) {
+  for (uint32_t k = 0; k <= BRACETWILL_ANSWER_PLACE; k++)
+    for (uint32_t j = 0; j <= BRACETWILL_ANSWER_PLACE + 1; j++) {
       const char *a = bracetwill_answer_meaning(k), *b = bracetwill_answer_meaning(j);
       const bool alike = length(a) == length(b) && same(a, b, length(a));
       check(alike == (k == j), "each number has its own meaning", k, j);
@@ -627,8 +824,13 @@ static void meanings(void) {
 int main(void) {
   drivers_refuse(bracetwill_inverse_transform_2d);
   drivers_refuse(bracetwill_inverse_transform_2d_reference);
+  drivers_refuse(driver_rows);
   drivers_known(bracetwill_inverse_transform_2d);
   drivers_known(bracetwill_inverse_transform_2d_reference);
+  drivers_known(driver_rows);
+  summaries();
+  replacements();
+  replace_refuses();
   drivers_agree();
   reconstruct_refuses();
   reconstruct_takes();

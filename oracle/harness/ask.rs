@@ -161,6 +161,43 @@ pub fn ask(c: &Call) -> Outcome {
             let r = vbk::replay(&file);
             Outcome { nums: vec![r.header.into(), r.touched.into()], lists: vec![numbers(r.answers), numbers(r.samples)] }
         }
+        32 => {
+            let (n, block, lent) = (a(0) as u32, &c.lists[0], c.lists[1][0] as u32);
+            let answer = rules::row_summary(n, block);
+            // of the block's rows, and under a refusal of what stands in the room for the summary
+            let rows = if answer == 0 { rules::live_rows(n, block) } else { rules::set_rows(lent) };
+            let count = rows.iter().filter(|live| **live).count() as i128;
+            let row = |found: Option<usize>| found.map_or(-1, |i| i as i128);
+            let (first, last) = (row(rows.iter().position(|live| *live)), row(rows.iter().rposition(|live| *live)));
+            Outcome { nums: vec![answer.into(), count, first, last], lists: vec![vec![rules::summary(&rows).into()]] }
+        }
+        33 => {
+            let r = rules::Replacement {
+                size: a(0) as u32,
+                place: a(1) as u64,
+                token: a(2) as i64,
+                dc: a(3) as i32,
+                ac: a(4) as i32,
+                depth: a(5) as u32,
+            };
+            let (mut block, mut summary) = (c.lists[0].clone(), c.lists[1][0] as u32);
+            let answer = r.answer(block.len());
+            if answer == 0 {
+                r.make(&mut block, &mut summary);
+            }
+            Outcome { nums: vec![answer.into()], lists: vec![block, vec![summary.into()]] }
+        }
+        34 => {
+            let (n, tx_type, lossless) = (a(0) as u32, a(1) as u8, a(2) != 0);
+            let mut block = c.lists[0].clone();
+            let answer = rules::driver(n, tx_type, lossless, &block);
+            let mut rows = 0;
+            if answer == 0 {
+                rows = rules::row_transforms(n, tx_type, lossless, &block);
+                idct::inverse_transform_2d(&mut block, n, tx_type, lossless);
+            }
+            Outcome { nums: vec![answer.into(), rows as i128], lists: vec![block] }
+        }
         k => panic!("no kind {k}"),
     }
 }

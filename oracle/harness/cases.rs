@@ -600,6 +600,145 @@ fn refused_recon(r: &mut Rng, wanted: &[u8]) -> Call {
     c.call()
 }
 
+// ---- the row summary ----
+
+/// A summary that nobody made of the block: any bits, those past the block's rows among them.
+fn strange_summary(r: &mut Rng) -> u32 {
+    match r.below(5) {
+        0 => 0,
+        1 => u32::MAX,
+        2 => 1 << r.below(32),
+        3 => !(1 << r.below(32)),
+        _ => r.next() as u32,
+    }
+}
+
+fn summary_call(n: u32, block: Vec<i64>, lent: u32) -> Call {
+    call(32, vec![n.into()], vec![block, vec![lent.into()]])
+}
+
+/// A block and the number of its rows' summary; no limit is asked for.
+fn row_summary(r: &mut Rng) -> Call {
+    let n = r.pick(&[2u32, 2, 2, 3, 3, 4, 4, 5]);
+    let mut block = fill(r, side(n), &|_| i64::MAX);
+    if r.once_in(4) {
+        // longer than the block: what follows is not looked at
+        let more = r.range(1, 40) as usize;
+        block.extend(tail(r, more, i64::MAX));
+    }
+    let lent = strange_summary(r);
+    summary_call(n, block, lent)
+}
+
+fn refused_summary(r: &mut Rng, wanted: &[u8]) -> Call {
+    let n = r.pick(&[2u32, 2, 3, 4]);
+    let mut block = fill(r, side(n), &|_| 50);
+    if wanted.contains(&6) {
+        let count = block.len();
+        block.truncate(r.pick(&[0, 1, count / 2, count - 1]));
+    }
+    let lent = strange_summary(r);
+    let n = if wanted.contains(&2) { r.pick(&[0, 1, 6, 7, 31, 32, 64, u32::MAX]) } else { n };
+    summary_call(n, block, lent)
+}
+
+/// A block of coefficients, its summary or another one, and the token that takes a place of it.
+struct Replaced {
+    size: u32,
+    place: u64,
+    token: i64,
+    dc: i32,
+    ac: i32,
+    depth: u32,
+    block: Vec<i64>,
+    summary: u32,
+}
+
+impl Replaced {
+    fn call(self) -> Call {
+        let args = vec![self.size.into(), self.place.into(), self.token.into(), self.dc.into(), self.ac.into(), self.depth.into()];
+        call(33, args, vec![self.block, vec![self.summary.into()]])
+    }
+}
+
+fn own_summary(size: u32, block: &[i64]) -> u32 {
+    rules::summary(&rules::live_rows(size + 2, block))
+}
+
+fn good_replaced(r: &mut Rng) -> Replaced {
+    let size = r.pick(&[0u32, 0, 0, 1, 1, 2, 2, 3]);
+    let (dc, ac, depth) = (quantizer(r), quantizer(r), r.pick(&DEPTHS));
+    let block = fill(r, side(size + 2), &|_| COEF);
+    // a place that is live as often as any other, so that rows become empty too
+    let live: Vec<u64> = (0..block.len() as u64).filter(|k| block[*k as usize] != 0).collect();
+    let place = if live.is_empty() || r.once_in(2) { r.below(block.len() as u64) } else { r.pick(&live) };
+    let most = token_bound(size, depth, if place == 0 { dc } else { ac });
+    let token = match r.below(4) {
+        0 | 1 => 0,
+        2 => r.pick(&[1, -1, most, -most]),
+        _ => {
+            let b = bound(r, most);
+            number(r, b)
+        }
+    };
+    let summary = if r.once_in(3) { strange_summary(r) } else { own_summary(size, &block) };
+    Replaced { size, place, token, dc, ac, depth, block, summary }
+}
+
+fn replaced(r: &mut Rng) -> Call {
+    let mut c = good_replaced(r);
+    if r.once_in(16) {
+        // one past the greatest token of the place: 8 or 9
+        let t = token_bound(c.size, c.depth, if c.place == 0 { c.dc } else { c.ac }) + 1;
+        c.token = r.pick(&[t, -t]);
+    }
+    c.call()
+}
+
+fn refused_replaced(r: &mut Rng, wanted: &[u8]) -> Call {
+    let has = |a: u8| wanted.contains(&a);
+    let mut c = good_replaced(r);
+    c.token = r.range(-20, 20);
+    (c.dc, c.ac) = (c.dc.min(1_000), c.ac.min(1_000));
+    if has(1) {
+        c.depth = r.pick(&BAD_DEPTHS);
+    }
+    let codeable = if has(1) { 262_210 } else { rules::codeable(c.depth) };
+    if has(9) {
+        // a codeable token whose product is beyond the limit, under the quantizer of its place alone
+        let least = 2 * COEF / codeable + 1;
+        let q = r.range(least.min(32_767), 32_767) as i32;
+        if c.place == 0 {
+            c.dc = q;
+        } else {
+            c.ac = q;
+        }
+        c.token = r.pick(&[codeable, -codeable]);
+    }
+    if has(8) {
+        c.token = beyond(r, codeable);
+    }
+    if has(5) {
+        let q = r.pick(&BAD_QUANTS);
+        match r.below(3) {
+            0 => c.dc = q,
+            1 => c.ac = q,
+            _ => (c.dc, c.ac) = (q, r.pick(&BAD_QUANTS)),
+        }
+    }
+    let count = c.block.len();
+    if has(16) {
+        c.place = r.pick(&[count as u64, count as u64 + 1, 1_024, 1 << 32, u64::MAX]);
+    }
+    if has(6) {
+        c.block.resize(r.pick(&[0, 1, count - 1, count + 1, 2 * count]), 0);
+    }
+    if has(2) {
+        c.size = r.pick(&BAD_SIZES);
+    }
+    c.call()
+}
+
 // ---- forward WHT and the quantizers ----
 
 fn forward(r: &mut Rng) -> Call {
@@ -722,8 +861,8 @@ pub fn example() -> Recon {
 
 // ---- the systematic part ----
 
-/// The numbers that a call can refuse with.
-pub const REFUSALS: [(u32, &[u8]); 7] = [
+/// The numbers that a call can refuse with, in their order.
+pub const REFUSALS: [(u32, &[u8]); 10] = [
     (20, &[2, 3, 4, 6, 9]),
     (21, &[2, 3, 4, 6, 9]),
     (22, &[1, 2, 3, 4, 5, 6, 7, 8, 9]),
@@ -731,15 +870,20 @@ pub const REFUSALS: [(u32, &[u8]); 7] = [
     (24, &[1, 2, 5, 6, 9]),
     (25, &[5, 6, 9]),
     (31, &[1, 2, 3, 4, 5, 6, 7, 8, 9, 15]),
+    (32, &[2, 6]),
+    (33, &[1, 2, 5, 6, 16, 8, 9]),
+    (34, &[2, 3, 4, 6, 9]),
 ];
 
 /// A call to which each of these numbers applies (3 and 4 never do together).
 pub fn refused(r: &mut Rng, kind: u32, wanted: &[u8]) -> Call {
     match kind {
-        20 | 21 => refused_driver(r, kind, wanted),
+        20 | 21 | 34 => refused_driver(r, kind, wanted),
         22 => refused_recon(r, wanted),
         23 => refused_forward(r, wanted),
         31 => refused_report(r, wanted),
+        32 => refused_summary(r, wanted),
+        33 => refused_replaced(r, wanted),
         _ => refused_quantize(r, kind, wanted),
     }
 }
@@ -986,6 +1130,128 @@ fn systematic_report(r: &mut Rng, out: &mut dyn FnMut(Call)) {
     out(reported(one(0, 1, 8), vec![TOTAL; ENTRIES], none()));
 }
 
+/// A block of which these rows hold one number each, in column `at` of a row.
+fn rows_block(n: u32, rows: u32, at: &mut dyn FnMut() -> usize) -> Vec<i64> {
+    let mut block = vec![0; side(n) * side(n)];
+    for i in (0..side(n)).filter(|i| rows >> i & 1 == 1) {
+        block[i * side(n) + at()] = if i % 2 == 0 { 40 } else { -9 };
+    }
+    block
+}
+
+/// Which rows are live: every row alone and every row but one, none, all, the first k, the last k; of four rows every pattern.
+fn row_patterns(n: u32) -> Vec<u32> {
+    let rows = side(n) as u32;
+    let all = u32::MAX >> (32 - rows);
+    if n == 2 {
+        return (0..16).collect();
+    }
+    let each = |f: &dyn Fn(u32) -> u32| (0..rows).map(f).collect::<Vec<u32>>();
+    [vec![0, all], each(&|i| 1 << i), each(&|i| all ^ 1 << i), each(&|i| all >> i), each(&|i| all << i & all)].concat()
+}
+
+/// The rows of a block: each pattern with its numbers in the first, the last and some column; blocks that are longer; the driver's row
+/// transforms of the same blocks, by every type; each single bit, and the empty and the full number, as what a refusal leaves.
+fn systematic_rows(r: &mut Rng, out: &mut dyn FnMut(Call)) {
+    for n in 2..=5u32 {
+        let last = side(n) - 1;
+        for rows in row_patterns(n) {
+            let lent = strange_summary(r);
+            out(summary_call(n, rows_block(n, rows, &mut || 0), lent));
+            out(summary_call(n, rows_block(n, rows, &mut || last), !rows));
+            let mut block = rows_block(n, rows, &mut || r.below(last as u64 + 1) as usize);
+            block.extend([7, i64::MIN, 0, i64::MAX]);
+            out(summary_call(n, block, 0));
+        }
+        for v in [1, -1, i64::MAX, i64::MIN] {
+            let mut block = vec![0; side(n) * side(n)];
+            block[side(n) + 1] = v;
+            out(summary_call(n, block, 0));
+        }
+        out(summary_call(n, vec![3; side(n) * side(n) - 1], 5));
+    }
+    for lent in (0..32).map(|i| 1 << i).chain([0, u32::MAX, 0x8000_0001, 0x7fff_fffe]) {
+        out(summary_call(r.pick(&[0, 1, 6, u32::MAX]), vec![1; 16], lent));
+    }
+    every_block(&mut |n, tx_type, lossless| {
+        let last = side(n) - 1;
+        let mut put = |block| out(driver_call(34, n, tx_type, lossless, block));
+        for rows in row_patterns(n) {
+            put(rows_block(n, rows, &mut || 0));
+            put(rows_block(n, rows, &mut || last));
+            put(rows_block(n, rows, &mut || r.below(last as u64 + 1) as usize));
+        }
+        // place 0 alone, and with each other number of row 0; what follows the block is neither seen nor counted
+        for k in 0..=last {
+            let mut block = vec![0; side(n) * side(n)];
+            (block[0], block[k]) = (16, 33);
+            put(block.clone());
+            block.extend([1, 2, i64::MAX]);
+            put(block);
+        }
+        let mut block = vec![0; side(n) * side(n)];
+        block.push(9);
+        put(block);
+    });
+    systematic_replaced(r, out);
+}
+
+/// One token into each corner of a block, its first and last row: as another number, as zero where its row had more and where it had
+/// not, as a token whose coefficient is zero; beside the block's own summary, and beside others, of which only one bit moves.
+fn systematic_replaced(r: &mut Rng, out: &mut dyn FnMut(Call)) {
+    for size in 0..4u32 {
+        let (n0, count) = (side(size + 2) as u64, rules::area(size) as u64);
+        for place in [0, 1, n0 - 1, n0, count - n0, count - 2, count - 1] {
+            let row = (place / n0) as u32;
+            for depth in DEPTHS {
+                let q = if size == 3 { 1 } else { 7 };
+                let mut put = |token: i64, block: &[i64], summary: u32| {
+                    out(Replaced { size, place, token, dc: q, ac: q, depth, block: block.to_vec(), summary }.call());
+                };
+                let none = vec![0; count as usize];
+                let mut alone = none.clone();
+                alone[place as usize] = 5;
+                let mut beside = alone.clone();
+                beside[(place ^ 1) as usize] = -3;
+                for token in [0, 1, -1, 2, 3, -3, rules::codeable(depth), rules::codeable(depth) + 1] {
+                    for block in [&none, &alone, &beside] {
+                        put(token, block, own_summary(size, block));
+                    }
+                }
+                // the row's bit as it was not, every other bit any
+                for token in [0, 1, 40] {
+                    for summary in [0, u32::MAX, 1 << row, !(1 << row), r.next() as u32] {
+                        put(token, &alone, summary);
+                        put(token, &beside, summary);
+                    }
+                }
+            }
+        }
+        // 8 and 9 are of the new token alone, under its place's quantizer: a block beyond every limit is none of it
+        for (place, dc, ac, token) in [
+            (0, 32_767, 1, 16_450),
+            (1, 32_767, 1, 16_450),
+            (0, 1, 32_767, 16_450),
+            (1, 1, 32_767, 16_450),
+            (0, 8_159, 1, 16_450),
+            (0, 8_160, 1, 16_450),
+            (1, 1, 16_318, -16_450),
+            (1, 1, 16_319, -16_450),
+            (1, 1, 1, 16_451),
+            (1, 1, 1, i64::MIN),
+        ] {
+            let block = vec![i64::MAX; count as usize];
+            out(Replaced { size, place, token, dc, ac, depth: 8, block, summary: 3 }.call());
+        }
+        for place in [count, count + 1, u64::MAX] {
+            out(Replaced { size, place, token: 1, dc: 4, ac: 4, depth: 8, block: vec![0; count as usize], summary: 1 }.call());
+        }
+        for len in [0, count - 1, count + 1] {
+            out(Replaced { size, place: 0, token: 1, dc: 4, ac: 4, depth: 8, block: vec![0; len as usize], summary: 1 }.call());
+        }
+    }
+}
+
 fn systematic_coder(out: &mut dyn FnMut(Call)) {
     for k in 0..16 {
         for v in [1, -1, 2, -3, 5, FORWARD, -FORWARD, FORWARD + 1, -FORWARD - 1, i64::MIN] {
@@ -1095,6 +1361,30 @@ pub fn worked(out: &mut dyn FnMut(Call)) {
         out(call(26, vec![depth.into()], vec![]));
     }
     out(files::as_call(&files::worked()));
+    worked_rows(out);
+}
+
+/// Rows 0 and 2 of four; the last row alone; place 0 alone and nothing under each transform that there is; a row that a token empties; the token 1 of
+/// 32 by 32 under quantizer 1, whose coefficient is 0.
+fn worked_rows(out: &mut dyn FnMut(Call)) {
+    out(summary_call(2, rows_block(2, 5, &mut || 1), 0));
+    out(summary_call(5, rows_block(5, 1 << 31, &mut || 31), 0));
+    out(summary_call(2, vec![0; 16], 7));
+    every_block(&mut |n, tx_type, lossless| {
+        for v in [16, 0] {
+            let mut block = vec![0; side(n) * side(n)];
+            block[0] = v;
+            out(driver_call(34, n, tx_type, lossless, block));
+        }
+    });
+    out(driver_call(34, 2, 0, false, rows_block(2, 5, &mut || 1)));
+    let replaced = |size: u32, place: u64, token: i64, block: Vec<i64>, summary: u32| {
+        Replaced { size, place, token, dc: 1, ac: 1, depth: 8, block, summary }.call()
+    };
+    out(replaced(0, 9, 0, rows_block(2, 5, &mut || 1), 5));
+    out(replaced(3, 1_023, 1, vec![0; 1_024], 0));
+    out(replaced(3, 1_023, 2, vec![0; 1_024], 0));
+    out(replaced(0, 16, 1, vec![0; 16], 0));
 }
 
 /// Each call that docs/REFERENCE.md or the form of the code singles out.
@@ -1105,6 +1395,7 @@ pub fn systematic(r: &mut Rng, out: &mut dyn FnMut(Call)) {
     systematic_recon(r, out);
     systematic_coder(out);
     systematic_report(r, out);
+    systematic_rows(r, out);
     for (kind, numbers) in REFUSALS {
         sets(r, numbers, 5, &mut |r, wanted| out(refused(r, kind, wanted)));
     }
@@ -1126,7 +1417,7 @@ fn file(r: &mut Rng) -> Call {
 
 /// One random call. Most are of the calls that do the work.
 pub fn random(r: &mut Rng) -> Call {
-    match r.below(100) {
+    match r.below(108) {
         0 => round2(r),
         1 => brev(r),
         2 => call(r.pick(&[3, 4]), vec![angle(r)], vec![]),
@@ -1146,6 +1437,9 @@ pub fn random(r: &mut Rng) -> Call {
         88 => codeable(r),
         89..=91 => file(r),
         92..=94 => report(r),
+        95..=96 => row_summary(r),
+        97..=99 => replaced(r),
+        100..=102 => driver(r, 34),
         _ => {
             let (kind, numbers) = r.pick(&REFUSALS);
             let wanted: Vec<u8> = (0..r.range(1, 3)).map(|_| r.pick(numbers)).collect();

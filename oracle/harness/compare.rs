@@ -148,9 +148,9 @@ fn run_batch(side: &Side, batch: &Batch) -> Result<Vec<Tally>, String> {
 // ---- differences on purpose ----
 
 /// A wrong outcome of one kind, for the comparison's own test. Kind 20: the last number of a type 1 or 3 block is off where place 5
-/// holds more than 2. Kind 22: the last sample is off where x is 1 and token 1 is not zero. Kind 31: a
-/// count is off where token 1 is a 7. Kind 30: the touched count is off where
-/// record 0 is done and record 1 is refused for its quantizer.
+/// holds more than 2. Kind 22: the last sample is off where x is 1 and token 1 is not zero. Kind 31: a count is off where token 1 is a 7.
+/// Kind 33: the bit of a row stays set where token 0 empties the row. Kind 30: the touched count is off where record 0 is done and record 1 is
+/// refused for its quantizer.
 pub fn spoil(kind: u32, call: &Call, outcome: &mut Outcome) {
     if call.kind != kind || outcome.nums[0] != 0 {
         return;
@@ -159,6 +159,7 @@ pub fn spoil(kind: u32, call: &Call, outcome: &mut Outcome) {
         20 => call.args[1] % 2 == 1 && call.lists[0][5] > 2,
         22 => call.args[0] == 1 && call.lists[0][1] != 0,
         31 => call.lists[0][1].abs() == 7,
+        33 => call.args[2] == 0 && outcome.lists[1][0] < call.lists[1][0],
         _ => outcome.lists[0].starts_with(&[0, 5]),
     };
     if !hit {
@@ -168,6 +169,8 @@ pub fn spoil(kind: u32, call: &Call, outcome: &mut Outcome) {
         outcome.nums[1] += 16;
     } else if kind == 31 {
         outcome.lists[1][5] += 1;
+    } else if kind == 33 {
+        outcome.lists[1][0] = call.lists[1][0];
     } else if let Some(last) = outcome.lists[0].last_mut() {
         *last += 1;
     }
@@ -251,7 +254,7 @@ fn simpler(c: &Call) -> Vec<Call> {
             }
             part = if part == 1 { 0 } else { part.div_ceil(2) };
         }
-        if c.kind == 20 || c.kind == 21 {
+        if matches!(c.kind, 20 | 21 | 32 | 34) {
             let n0 = 1usize << c.args[0].clamp(0, 5);
             with(&|d| d.lists[0].truncate(n0 * n0));
         }

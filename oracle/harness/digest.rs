@@ -215,6 +215,76 @@ fn block(key: u64, d: &mut Digest, reported: bool) {
     }
 }
 
+/// A summary, and what it says of itself: how many rows, the first and the last, all bits set where there is none.
+fn feed_summary(rows: &[bool], d: &mut Digest) {
+    d.feed(rules::summary(rows).into());
+    d.feed(rows.iter().filter(|live| **live).count() as u64);
+    let mut row = |found: Option<usize>| d.feed(found.map_or(u64::MAX, |i| i as u64));
+    row(rows.iter().position(|live| *live));
+    row(rows.iter().rposition(|live| *live));
+}
+
+/// Under a refusal, a drawn summary.
+fn row_summary(key: u64, d: &mut Digest) {
+    let size = size(draw(key, 1));
+    let block = filled(lent(draw(key, 2), 16, size), draw(key, 5), draw(key, 6) % 8);
+    let n = if size < 4 { size + 2 } else { size - 4 };
+    let answer = rules::row_summary(n, &block);
+    d.feed(answer.into());
+    feed_summary(&if answer == 0 { rules::live_rows(n, &block) } else { rules::set_rows(draw(key, 17) as u32) }, d);
+}
+
+/// The summary is the block's own, 0 where it has none, or once in four a drawn one.
+fn replace_token(key: u64, d: &mut Digest) {
+    let size = size(draw(key, 1));
+    let mut block = filled(lent(draw(key, 2), 32, size), draw(key, 5), draw(key, 6) % 8);
+    let n = if size < 4 { size + 2 } else { size - 4 };
+    let place = |r: u64| match r % 32 {
+        0 => r / 32,
+        1 => r / 32 % 1025,
+        _ => r / 32 % rules::area(if size > 3 { 0 } else { size }) as u64,
+    };
+    let token = |r: u64, scale: u64| match r % 8 {
+        0 => EDGES[(r / 8 % 16) as usize],
+        _ => number(r / 8, scale, 128),
+    };
+    let scale = |r: u64| [4, 5].get((r % 8) as usize).copied().unwrap_or(r / 8 % 4);
+    let own = if rules::row_summary(n, &block) == 0 { rules::summary(&rules::live_rows(n, &block)) } else { 0 };
+    let r = draw(key, 9);
+    let mut summary = if r % 4 == 0 { (r / 4) as u32 } else { own };
+    let c = rules::Replacement {
+        size,
+        place: place(draw(key, 8)),
+        token: token(draw(key, 10), scale(draw(key, 11))),
+        dc: quantizer(draw(key, 13)),
+        ac: quantizer(draw(key, 14)),
+        depth: depth(draw(key, 7)),
+    };
+    let answer = c.answer(block.len());
+    if answer == 0 {
+        c.make(&mut block, &mut summary);
+    }
+    d.feed(answer.into());
+    d.list(block.into_iter());
+    d.feed(summary.into());
+}
+
+fn driver_rows(key: u64, d: &mut Digest) {
+    let size = size(draw(key, 1));
+    let mut block = filled(lent(draw(key, 2), 16, size), draw(key, 5), draw(key, 6) % 8);
+    let n = if size < 4 { size + 2 } else { size - 4 };
+    let (tx_type, lossless) = (tx_type(draw(key, 3), size), lossless(draw(key, 4), size));
+    let answer = rules::driver(n, tx_type, lossless, &block);
+    let mut rows = 0;
+    if answer == 0 {
+        rows = rules::row_transforms(n, tx_type, lossless, &block);
+        idct::inverse_transform_2d(&mut block, n, tx_type, lossless);
+    }
+    d.feed(answer.into());
+    d.feed(rows as u64);
+    d.list(block.into_iter());
+}
+
 fn forward_wht(key: u64, d: &mut Digest) {
     let r = draw(key, 2);
     let count = if r % 16 == 0 { r / 16 % 33 } else { 16 };
@@ -322,7 +392,7 @@ fn file(key: u64, d: &mut Digest) {
 type Kind = fn(u64, &mut Digest);
 
 /// The kinds of calls. A new one is added at the end.
-const KINDS: [(&str, Kind); 9] = [
+const KINDS: [(&str, Kind); 12] = [
     ("inverse_transform_2d", |key, d| driver(key, d, true)),
     ("inverse_transform_2d_reference", |key, d| driver(key, d, false)),
     ("reconstruct_block", |key, d| block(key, d, false)),
@@ -332,6 +402,9 @@ const KINDS: [(&str, Kind); 9] = [
     ("max_codeable_coef", max_codeable),
     ("replay and blockrun", file),
     ("reconstruct_block_report", |key, d| block(key, d, true)),
+    ("row_summary", row_summary),
+    ("replace_token", replace_token),
+    ("inverse_transform_2d_rows", driver_rows),
 ];
 
 pub fn print(seed: u64, count: u64) {

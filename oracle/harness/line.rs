@@ -50,6 +50,10 @@ pub const SHAPES: &[Shape] = &[
     Shape { kind: 31, name: "reconstruct_block_report",
         args: &["x", "y", "size", "type", "lossless", "depth", "dc", "ac", "width", "height"],
         lists: &["tokens", "samples", "counts", "sums"], nums: &["answer"], after: &[After::Lent(1), After::Lent(2), After::Lent(3)] },
+    Shape { kind: 32, name: "row_summary", args: &["n"], lists: &["block", "summary"], nums: &["answer", "count", "first", "last"], after: S },
+    Shape { kind: 33, name: "replace_token", args: &["size", "place", "token", "dc", "ac", "depth"], lists: &["block", "summary"],
+        nums: &["answer"], after: &[After::Lent(0), After::Lent(1)] },
+    Shape { kind: 34, name: "inverse_transform_2d_rows", args: &["n", "type", "lossless"], lists: &["block"], nums: &["answer", "rows"], after: T },
 ];
 
 pub fn shape(kind: u32) -> Option<&'static Shape> {

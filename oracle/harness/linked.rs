@@ -13,7 +13,7 @@ mod archive;
 use archive::*;
 
 /// The kinds that are exported.
-const KINDS: [u32; 9] = [20, 21, 22, 23, 24, 25, 26, 30, 31];
+const KINDS: [u32; 12] = [20, 21, 22, 23, 24, 25, 26, 30, 31, 32, 33, 34];
 
 const MARGIN: usize = 8;
 
@@ -123,6 +123,17 @@ fn ours(c: &Call) -> (Outcome, bool) {
         }
         30 => ours_file(&c.lists[0]),
         31 => ours_report(c),
+        32 => ours_summary(c),
+        33 => ours_replaced(c),
+        34 => {
+            let mut l = first();
+            let mut rows = Lent::room(1, 0xa5a5_a5a5u32);
+            let answer = unsafe { bracetwill_inverse_transform_2d_rows(l.at(), l.len(), a(0) as u32, a(1) as u8, a(2) != 0, rows.at()) };
+            // under a refusal the room for the number stays
+            let kept = l.kept(l.len()) && rows.kept(usize::from(answer == 0));
+            let count = if answer == 0 { rows.list()[0] } else { 0 };
+            (Outcome { nums: vec![answer.into(), count.into()], lists: vec![l.list().to_vec()] }, kept)
+        }
         k => panic!("kind {k} is not exported"),
     }
 }
@@ -158,6 +169,39 @@ fn ours_report(c: &Call) -> (Outcome, bool) {
     let sums_list = sums.list().iter().map(|v| *v as i64).collect();
     let lists = vec![wide(s.list()), wide(counts.list()), sums_list];
     (Outcome { nums: vec![answer.into()], lists }, kept && counts.kept(44) && sums.kept(44))
+}
+
+/// The summary of a block, and what the summary says of itself.
+fn ours_summary(c: &Call) -> (Outcome, bool) {
+    let mut block = Lent::new(c.lists[0].iter().copied(), i64::MIN + 77);
+    let mut summary = Lent::new(c.lists[1].iter().map(|v| *v as u32), 0xa5a5_a5a5);
+    let answer = unsafe { bracetwill_row_summary(block.at(), block.len(), c.args[0] as u32, summary.at()) };
+    let s = summary.list()[0];
+    let (count, first, last) = unsafe { (bracetwill_row_count(s), bracetwill_first_row(s), bracetwill_last_row(s)) };
+    let kept = block.kept(block.len()) && block.list() == c.lists[0] && summary.kept(1);
+    (Outcome { nums: vec![answer.into(), count.into(), first.into(), last.into()], lists: vec![wide(summary.list())] }, kept)
+}
+
+/// One token into its place.
+fn ours_replaced(c: &Call) -> (Outcome, bool) {
+    let a = |i: usize| c.args[i];
+    let mut block = Lent::new(c.lists[0].iter().copied(), i64::MIN + 77);
+    let mut summary = Lent::new(c.lists[1].iter().map(|v| *v as u32), 0xa5a5_a5a5);
+    let answer = unsafe {
+        bracetwill_replace_token(
+            block.at(),
+            block.len(),
+            summary.at(),
+            a(0) as u32,
+            a(1) as usize,
+            a(2) as i64,
+            a(3) as i32,
+            a(4) as i32,
+            a(5) as u32,
+        )
+    };
+    let lists = vec![block.list().to_vec(), wide(summary.list())];
+    (Outcome { nums: vec![answer.into()], lists }, block.kept(block.len()) && summary.kept(1))
 }
 
 /// A run over a file, and its text, which must say the same.

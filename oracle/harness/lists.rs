@@ -2,9 +2,14 @@
 
 use crate::line::{self, Call, Outcome};
 use crate::rng::Rng;
-use crate::{ask, cases};
+use crate::{ask, cases, rules};
 use std::collections::BTreeMap;
 use std::io::Write;
+
+/// A pattern of rows that the list has by itself: none, each row alone, all; of four rows every one. Of others -1.
+fn pattern(n: i128, summary: u32) -> i128 {
+    if n == 2 || summary.count_ones() < 2 || summary.count_ones() == 1 << n { summary.into() } else { -1 }
+}
 
 /// What a call of the list stands for; the same number of each is kept.
 fn class(c: &Call, o: &Outcome) -> Vec<i128> {
@@ -25,6 +30,26 @@ fn class(c: &Call, o: &Outcome) -> Vec<i128> {
         }
         31 if answer == 0 => vec![0, c.args[2], c.args[5]],
         22 | 31 => vec![answer, small(c.args[2]), small(c.args[5])],
+        32 if answer == 0 => vec![0, c.args[0], pattern(c.args[0], o.lists[0][0] as u32), i128::from(c.lists[0].len() > 1 << (2 * c.args[0]))],
+        33 if answer == 0 => {
+            // which place; the row's bit before and after; a token that is not zero with a coefficient that is; the block's own summary
+            let (at, count) = (c.args[1] as usize, c.lists[0].len());
+            let row = c.args[1] as u32 / (4 << c.args[0]);
+            let bit = |s: i64| i128::from(s >> row & 1);
+            let own = i64::from(rules::summary(&rules::live_rows(c.args[0] as u32 + 2, &c.lists[0])));
+            let place = i128::from(at == 0) + 2 * i128::from(at == count - 1);
+            let halved = i128::from(c.args[2] != 0 && o.lists[0][at] == 0);
+            vec![0, c.args[0], place, bit(c.lists[1][0]), bit(o.lists[1][0]), halved, i128::from(own == c.lists[1][0])]
+        }
+        34 if answer == 0 => {
+            let n = c.args[0];
+            let rows = rules::live_rows(n as u32, &c.lists[0]);
+            let kind = if c.args[2] == 1 { 9 } else { c.args[1] };
+            let which = if n < 4 { pattern(n, rules::summary(&rows)) } else { rows.iter().filter(|live| **live).count().min(2) as i128 };
+            vec![0, n, kind, which, i128::from(o.nums[1] == 0)]
+        }
+        32 | 34 => vec![answer, small(c.args[0])],
+        33 => vec![answer, small(c.args[0]), small(c.args[5])],
         24 if answer == 0 => vec![0, c.args[2], c.args[3]],
         23..=25 => vec![answer],
         30 => {
@@ -67,6 +92,15 @@ fn room(c: &Call, o: &Outcome) -> (usize, usize) {
             _ => (5_000, 2),
         },
         31 => (700, 2),
+        32 if answer == 0 => (400, if pattern(c.args[0], o.lists[0][0] as u32) < 0 { 6 } else { 1 }),
+        33 if answer == 0 => (400, 2),
+        34 if answer == 0 => match c.args[0] {
+            2 => (300, 1),
+            3 => (600, 1),
+            4 => (1_600, 2),
+            _ => (5_000, 2),
+        },
+        32..=34 => (300, 3),
         20 | 21 => (300, 3),
         22 => (300, 2),
         23 if answer == 0 => (300, 150),

@@ -130,6 +130,93 @@ pub fn count(size: u32, tokens: &[i64], counts: &mut [i64], sums: &mut [i64]) {
     }
 }
 
+/// Which rows of a block of n0 rows hold a number that is not 0, row after row.
+pub fn live_rows(n: u32, block: &[i64]) -> Vec<bool> {
+    let side = 1usize << n;
+    block[..side * side].chunks(side).map(|row| row.iter().any(|v| *v != 0)).collect()
+}
+
+/// Which bits of a summary are set, from bit 0 on.
+pub fn set_rows(summary: u32) -> Vec<bool> {
+    (0..32).map(|i| summary / 2u32.pow(i) % 2 == 1).collect()
+}
+
+/// The summary of these rows.
+pub fn summary(rows: &[bool]) -> u32 {
+    rows.iter().rev().fold(0, |s, live| 2 * s + u32::from(*live))
+}
+
+pub fn row_summary(n: u32, block: &[i64]) -> u8 {
+    if !(2..=5).contains(&n) {
+        return 2;
+    }
+    if block.len() < area(n - 2) {
+        return 6;
+    }
+    0
+}
+
+/// How many rows the driver transforms, of a block that it takes: none where place 0 alone may be live, type 0 and not lossless; else
+/// each row that holds anything.
+pub fn row_transforms(n: u32, tx_type: u8, lossless: bool, block: &[i64]) -> usize {
+    if !lossless && tx_type == 0 && block[1..area(n - 2)].iter().all(|v| *v == 0) {
+        return 0;
+    }
+    live_rows(n, block).into_iter().filter(|live| *live).count()
+}
+
+pub struct Replacement {
+    pub size: u32,
+    pub place: u64,
+    pub token: i64,
+    pub dc: i32,
+    pub ac: i32,
+    pub depth: u32,
+}
+
+impl Replacement {
+    /// In the order of replacement, in which 16 stands after 6 and before 8.
+    pub fn answer(&self, block: usize) -> u8 {
+        if !good_depth(self.depth) {
+            return 1;
+        }
+        if self.size > 3 {
+            return 2;
+        }
+        if !good_quant(self.dc) || !good_quant(self.ac) {
+            return 5;
+        }
+        if block != area(self.size) {
+            return 6;
+        }
+        if self.place >= area(self.size) as u64 {
+            return 16;
+        }
+        if self.token.unsigned_abs() > codeable(self.depth) as u64 {
+            return 8;
+        }
+        if self.coefficient().unsigned_abs() > COEF_LIMIT {
+            return 9;
+        }
+        0
+    }
+
+    /// Token times the quantizer of its place, at 32 by 32 halved toward zero.
+    fn coefficient(&self) -> i64 {
+        let product = self.token * i64::from(if self.place == 0 { self.dc } else { self.ac });
+        if self.size == 3 { product / 2 } else { product }
+    }
+
+    /// The block with the coefficient in its place, and the summary with that row looked at again.
+    pub fn make(&self, block: &mut [i64], summary: &mut u32) {
+        block[self.place as usize] = self.coefficient();
+        let row = self.place as usize / (4 << self.size);
+        let mut rows = set_rows(*summary);
+        rows[row] = live_rows(self.size + 2, block)[row];
+        *summary = self::summary(&rows);
+    }
+}
+
 pub fn forward_wht(block: &[i64]) -> u8 {
     if block.len() != 16 {
         return 6;

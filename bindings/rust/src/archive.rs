@@ -3,6 +3,29 @@
 unsafe extern "C" {
     pub fn bracetwill_inverse_transform_2d(block: *mut i64, block_len: usize, n: u32, tx_type: u8, lossless: bool) -> u32;
     pub fn bracetwill_inverse_transform_2d_reference(block: *mut i64, block_len: usize, n: u32, tx_type: u8, lossless: bool) -> u32;
+    pub fn bracetwill_row_summary(block: *const i64, block_len: usize, n: u32, summary: *mut u32) -> u32;
+    pub fn bracetwill_row_count(summary: u32) -> u32;
+    pub fn bracetwill_first_row(summary: u32) -> i32;
+    pub fn bracetwill_last_row(summary: u32) -> i32;
+    pub fn bracetwill_replace_token(
+        block: *mut i64,
+        block_len: usize,
+        summary: *mut u32,
+        tx_sz: u32,
+        place: usize,
+        token: i64,
+        dc_quant: i32,
+        ac_quant: i32,
+        bit_depth: u32,
+    ) -> u32;
+    pub fn bracetwill_inverse_transform_2d_rows(
+        block: *mut i64,
+        block_len: usize,
+        n: u32,
+        tx_type: u8,
+        lossless: bool,
+        rows: *mut u32,
+    ) -> u32;
     pub fn bracetwill_reconstruct_block(
         samples: *mut u16,
         samples_len: usize,

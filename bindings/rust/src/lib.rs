@@ -85,9 +85,10 @@ fn answer(number: u32) -> Result<(), Refusal> {
 
 /// What the calls of the Rust's names make of a refusal.
 #[track_caller]
-fn taken(call: &str, result: Result<(), Refusal>) {
-    if let Err(refusal) = result {
-        panic!("{call} was refused, {refusal}");
+fn taken<T>(call: &str, result: Result<T, Refusal>) -> T {
+    match result {
+        Ok(value) => value,
+        Err(refusal) => panic!("{call} was refused, {refusal}"),
     }
 }
 
@@ -143,6 +144,32 @@ pub mod idct {
         answer(unsafe { archive::bracetwill_inverse_transform_2d_reference(dequant.as_mut_ptr(), dequant.len(), n, tx_type, lossless) })
     }
 
+    /// [`try_inverse_transform_2d`], which besides says how many rows it transformed: those that hold a number that is not 0, lossless too, and
+    /// 0 where nothing but the coefficient at place 0 can be other than 0, `tx_type` is 0 and `lossless` is not set. Refused as the other.
+    ///
+    /// ```
+    /// use bracetwill::idct::{ADST_DCT, DCT_DCT, try_inverse_transform_2d_rows};
+    ///
+    /// // rows 0 and 2 hold something
+    /// let mut block = [0; 16];
+    /// (block[1], block[9]) = (40, 40);
+    /// assert_eq!(try_inverse_transform_2d_rows(&mut block, 2, DCT_DCT, false), Ok(2));
+    ///
+    /// // place 0 alone: no row is transformed by type 0, and one by any other
+    /// let mut dc = [0; 16];
+    /// dc[0] = 16;
+    /// let mut other = dc;
+    /// assert_eq!(try_inverse_transform_2d_rows(&mut dc, 2, DCT_DCT, false), Ok(0));
+    /// assert_eq!(try_inverse_transform_2d_rows(&mut other, 2, ADST_DCT, false), Ok(1));
+    /// assert_eq!(dc, [1; 16]);
+    /// ```
+    pub fn try_inverse_transform_2d_rows(dequant: &mut [i64], n: u32, tx_type: u8, lossless: bool) -> Result<u32, Refusal> {
+        let mut rows = 0;
+        // SAFETY: as above, and the number is a variable of its own.
+        answer(unsafe { archive::bracetwill_inverse_transform_2d_rows(dequant.as_mut_ptr(), dequant.len(), n, tx_type, lossless, &mut rows) })?;
+        Ok(rows)
+    }
+
     /// [`try_inverse_transform_2d`]; a refusal panics.
     ///
     /// ```
@@ -165,6 +192,179 @@ pub mod idct {
     #[track_caller]
     pub fn inverse_transform_2d_reference(dequant: &mut [i64], n: u32, tx_type: u8, lossless: bool) {
         taken("inverse_transform_2d_reference", try_inverse_transform_2d_reference(dequant, n, tx_type, lossless));
+    }
+
+    /// [`try_inverse_transform_2d_rows`]; a refusal panics.
+    ///
+    /// ```
+    /// // a lossless block is never DC-only: its one live row is transformed
+    /// let mut block = [0; 16];
+    /// block[0] = 20;
+    /// assert_eq!(bracetwill::idct::inverse_transform_2d_rows(&mut block, 2, 0, true), 1);
+    /// assert_eq!(block[..4], [2, 1, 1, 1]);
+    /// ```
+    #[track_caller]
+    pub fn inverse_transform_2d_rows(dequant: &mut [i64], n: u32, tx_type: u8, lossless: bool) -> u32 {
+        taken("inverse_transform_2d_rows", try_inverse_transform_2d_rows(dequant, n, tx_type, lossless))
+    }
+}
+
+/// A row summary beside a block of coefficients: which rows hold anything. The Rust has no such call.
+pub mod summary {
+    use super::{Refusal, answer, archive, taken};
+
+    /// The summary of a block: bit i is set when row i holds a number that is not 0. What it says of itself needs the block no more.
+    ///
+    /// ```
+    /// use bracetwill::summary::RowSummary;
+    ///
+    /// let rows = RowSummary::from(0b1010);
+    /// assert_eq!((rows.count(), rows.first(), rows.last()), (2, Some(1), Some(3)));
+    ///
+    /// // an empty one has no first and no last row
+    /// let none = RowSummary::default();
+    /// assert_eq!((none.count(), none.first(), none.last()), (0, None, None));
+    /// ```
+    #[derive(Debug, Clone, Copy, PartialEq, Eq, Hash, Default)]
+    pub struct RowSummary(u32);
+
+    impl RowSummary {
+        /// The bits, row 0 the lowest.
+        pub fn bits(self) -> u32 {
+            self.0
+        }
+
+        /// How many rows hold anything.
+        pub fn count(self) -> u32 {
+            // SAFETY: the call takes a number and no memory.
+            unsafe { archive::bracetwill_row_count(self.0) }
+        }
+
+        /// The first row that holds anything, where there is one.
+        pub fn first(self) -> Option<u32> {
+            // SAFETY: as above.
+            u32::try_from(unsafe { archive::bracetwill_first_row(self.0) }).ok()
+        }
+
+        /// The last row that holds anything, where there is one.
+        pub fn last(self) -> Option<u32> {
+            // SAFETY: as above.
+            u32::try_from(unsafe { archive::bracetwill_last_row(self.0) }).ok()
+        }
+    }
+
+    /// A summary that was kept, by its bits; any number is taken.
+    impl From<u32> for RowSummary {
+        fn from(bits: u32) -> Self {
+            Self(bits)
+        }
+    }
+
+    /// The summary of the block of n0 × n0 coefficients at the front of the list, n0 = 2^n; what lies past them is not looked at, and any
+    /// coefficient is taken. Refused with 2 or 6.
+    ///
+    /// ```
+    /// use bracetwill::Refusal;
+    /// use bracetwill::summary::try_row_summary;
+    ///
+    /// let mut block = [0; 16];
+    /// (block[3], block[8]) = (-1, 7); // in row 0 and in row 2
+    /// assert_eq!(try_row_summary(&block, 2), Ok(0b101.into()));
+    /// assert_eq!(try_row_summary(&block, 3), Err(Refusal::Length));
+    /// ```
+    pub fn try_row_summary(block: &[i64], n: u32) -> Result<RowSummary, Refusal> {
+        let mut summary = 0;
+        // SAFETY: a slice is as many numbers as its length says, set and aligned; the summary is a variable of its own.
+        answer(unsafe { archive::bracetwill_row_summary(block.as_ptr(), block.len(), n, &mut summary) })?;
+        Ok(RowSummary(summary))
+    }
+
+    /// [`try_row_summary`]; a refusal panics.
+    ///
+    /// ```
+    /// let mut block = vec![0; 1024];
+    /// block[1023] = 1;
+    /// assert_eq!(bracetwill::summary::row_summary(&block, 5).first(), Some(31));
+    /// ```
+    #[track_caller]
+    pub fn row_summary(block: &[i64], n: u32) -> RowSummary {
+        taken("row_summary", try_row_summary(block, n))
+    }
+
+    /// One token of a dequantized block is another: its coefficient goes to its place, and the bit of that row is worked out again. Every
+    /// other coefficient and bit stays, whatever it was, so the summary of a block stays its summary. `tx_sz` is 0 to 3 for 4, 8, 16 and 32;
+    /// `dc_quant` is for place 0, `ac_quant` for all others. Refused with the first of 1, 2, 5, 6, 16, 8 and 9 that applies, 8 and 9 of the
+    /// new token alone; a refusal changes neither block nor summary.
+    ///
+    /// ```
+    /// use bracetwill::Refusal;
+    /// use bracetwill::summary::{row_summary, try_replace_token};
+    ///
+    /// let mut block = [0; 16];
+    /// (block[0], block[9]) = (40, -12);
+    /// let mut rows = row_summary(&block, 2);
+    /// assert_eq!(rows.last(), Some(2));
+    ///
+    /// // token 0 at place 9: row 2 is empty
+    /// try_replace_token(&mut block, &mut rows, 0, 9, 0, 8, 4, 8)?;
+    /// assert_eq!((block[9], rows, rows.last()), (0, row_summary(&block, 2), Some(0)));
+    ///
+    /// // there is no place 16
+    /// assert_eq!(try_replace_token(&mut block, &mut rows, 0, 16, 1, 8, 4, 8), Err(Refusal::Place));
+    /// # Ok::<(), Refusal>(())
+    /// ```
+    #[allow(clippy::too_many_arguments)]
+    pub fn try_replace_token(
+        block: &mut [i64],
+        summary: &mut RowSummary,
+        tx_sz: u32,
+        place: usize,
+        token: i64,
+        dc_quant: i32,
+        ac_quant: i32,
+        bit_depth: u32,
+    ) -> Result<(), Refusal> {
+        // SAFETY: the slice is as many numbers as its length says, set and aligned; two `&mut` share nothing.
+        answer(unsafe {
+            archive::bracetwill_replace_token(
+                block.as_mut_ptr(),
+                block.len(),
+                &mut summary.0,
+                tx_sz,
+                place,
+                token,
+                dc_quant,
+                ac_quant,
+                bit_depth,
+            )
+        })
+    }
+
+    /// [`try_replace_token`]; a refusal panics.
+    ///
+    /// ```
+    /// use bracetwill::summary::{RowSummary, replace_token};
+    ///
+    /// // the summary is of coefficients: at 32 by 32 token 1 under quantizer 1 is the coefficient 0
+    /// let (mut block, mut rows) = (vec![0; 1024], RowSummary::default());
+    /// replace_token(&mut block, &mut rows, 3, 1023, 1, 1, 1, 8);
+    /// assert_eq!(rows.count(), 0);
+    /// replace_token(&mut block, &mut rows, 3, 1023, 2, 1, 1, 8);
+    /// assert_eq!((block[1023], rows.first()), (1, Some(31)));
+    /// ```
+    #[track_caller]
+    #[allow(clippy::too_many_arguments)]
+    pub fn replace_token(
+        block: &mut [i64],
+        summary: &mut RowSummary,
+        tx_sz: u32,
+        place: usize,
+        token: i64,
+        dc_quant: i32,
+        ac_quant: i32,
+        bit_depth: u32,
+    ) {
+        taken("replace_token", try_replace_token(block, summary, tx_sz, place, token, dc_quant, ac_quant, bit_depth));
     }
 }
 

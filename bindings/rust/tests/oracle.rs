@@ -164,6 +164,62 @@ fn report(c: &Call) -> bool {
     answer == 0 && lent == own && entries && got.total() == before.total() + tokens.len() as u64
 }
 
+/// The summary of a block, and what it says of itself, by a look at every row; under a refusal, what the lent number says.
+fn summary(c: &Call) -> bool {
+    use bracetwill::summary::{RowSummary, row_summary, try_row_summary};
+    let (n, block) = (c.args[0] as u32, &c.lists[0]);
+    let (want, got) = (rules::row_summary(n, block), try_row_summary(block, n));
+    let panics = catch_unwind(|| row_summary(block, n));
+    let (rows, says) = match got {
+        Ok(s) => (rules::live_rows(n, block), s),
+        Err(_) => (rules::set_rows(c.lists[1][0] as u32), RowSummary::from(c.lists[1][0] as u32)),
+    };
+    let row = |found: Option<usize>| found.map(|i| i as u32);
+    number(got.map(|_| ())) == want
+        && panics.ok() == got.ok()
+        && says.bits() == rules::summary(&rows)
+        && says.count() as usize == rows.iter().filter(|live| **live).count()
+        && says.first() == row(rows.iter().position(|live| *live))
+        && says.last() == row(rows.iter().rposition(|live| *live))
+}
+
+fn replaced(c: &Call) -> bool {
+    use bracetwill::summary::{RowSummary, replace_token, try_replace_token};
+    let a = |i: usize| c.args[i];
+    let (size, place, token) = (a(0) as u32, a(1) as usize, a(2) as i64);
+    let (dc, ac, depth) = (a(3) as i32, a(4) as i32, a(5) as u32);
+    let rule = rules::Replacement { size, place: place as u64, token, dc, ac, depth };
+    let lent = c.lists[1][0] as u32;
+    let (mut block, mut bits) = (c.lists[0].clone(), lent);
+    let want = rule.answer(block.len());
+    if want == 0 {
+        rule.make(&mut block, &mut bits);
+    }
+    let (mut tried, mut rows) = (c.lists[0].clone(), RowSummary::from(lent));
+    let (mut other, mut others) = (c.lists[0].clone(), RowSummary::from(lent));
+    let got = number(try_replace_token(&mut tried, &mut rows, size, place, token, dc, ac, depth));
+    let panics = catch_unwind(AssertUnwindSafe(|| replace_token(&mut other, &mut others, size, place, token, dc, ac, depth)));
+    got == want && panics.is_err() == (want != 0) && (&tried, rows.bits()) == (&block, bits) && (other, others.bits()) == (block, bits)
+}
+
+/// The driver as of kind 20, and its row transforms by a look at every row.
+fn driver_rows(c: &Call) -> bool {
+    use bracetwill::idct::{inverse_transform_2d_rows, try_inverse_transform_2d_rows};
+    let (n, tx_type, lossless) = (c.args[0] as u32, c.args[1] as u8, c.args[2] != 0);
+    let want = rules::driver(n, tx_type, lossless, &c.lists[0]);
+    let rows = if want == 0 { rules::row_transforms(n, tx_type, lossless, &c.lists[0]) as u32 } else { 0 };
+    let counted = std::cell::Cell::new(true);
+    let held = |got: u32| counted.set(counted.get() && got == rows);
+    let alike = in_place(
+        &c.lists[0],
+        want,
+        |l| idct::inverse_transform_2d(l, n, tx_type, lossless),
+        |l| held(inverse_transform_2d_rows(l, n, tx_type, lossless)),
+        |l| try_inverse_transform_2d_rows(l, n, tx_type, lossless).map(held),
+    );
+    alike && counted.get()
+}
+
 fn file(c: &Call) -> bool {
     let bytes: Vec<u8> = c.lists[0].iter().map(|b| *b as u8).collect();
     let want = vbk::replay(&bytes);
@@ -238,6 +294,9 @@ fn compare(c: &Call) -> Option<(&'static str, bool)> {
         }
         30 => file(c),
         31 => report(c),
+        32 => summary(c),
+        33 => replaced(c),
+        34 => driver_rows(c),
         _ => return None,
     };
     Some((name, alike))
@@ -267,7 +326,7 @@ fn main() {
         println!("{name:<32} {a:>7} alike {b:>4} not");
         (same, differ) = (same + a, differ + b);
     }
-    assert_eq!(tally.len(), 9, "every public call is compared");
+    assert_eq!(tally.len(), 12, "every public call is compared");
     println!("{same} passed, {differ} failed");
     std::process::exit(i32::from(differ != 0));
 }

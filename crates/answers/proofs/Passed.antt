@@ -13,7 +13,7 @@ use Rattle.whole.specs.Within.{Within}
 use Rattle.whole.proofs.Tests.{any-at, any-none, any-more}
 use Rattle.whole.proofs.Within.{within-abs}
 use Rattle.answers.specs.Limits.{QUANT_LIMIT, codeable}
-use Rattle.answers.specs.Bad.{badDepth, badQuantizer, anyBeyond}
+use Rattle.answers.specs.Bad.{badDepth, badSide, badQuantizer, anyBeyond}
 
 -- true is not false
 never : true ≡ false → ⊥
@@ -29,6 +29,16 @@ by-depth Q a b e depth h = go (eqb depth 8) (eqb depth 10) (eqb depth 12) refl r
     go false true z p q r = rw (eqb-true depth 10 q) b
     go false false true p q r = rw (eqb-true depth 12 r) e
     go false false false p q r = absurd (never (rw (p, q, r) at h))
+
+-- n is 2 to 5
+pub side-range : (n : ℕ) → badSide n ≡ false → (2 ≤ n) × (n ≤ 5)
+unfolding badSide
+side-range n h = go (ltb n 2) (ltb 5 n) refl refl
+  where
+    go : (a b : Bool) → ltb n 2 ≡ a → ltb 5 n ≡ b → (2 ≤ n) × (n ≤ 5)
+    go true b p q = absurd (never (rw p at h))
+    go false true p q = absurd (never (rw (p, q) at h))
+    go false false p q = (ltb-false n 2 p, ltb-false 5 n q)
 
 -- 12 is the deepest, and the limit of no depth at all is 0
 pub codeable-most : (depth : ℕ) → codeable depth ≤ codeable 12

@@ -3,10 +3,10 @@ ghost use Prim.Native.Nat.{_≤_};
 ghost use lib.IntN.{natAbs};
 ghost use lib.ListN.{length};
 ghost use Rattle.answers.specs.Answers.{number};
-ghost use Rattle.answers.specs.Bad.{badDepth, badSize, badLossless, badTxType, anyBeyond};
+ghost use Rattle.answers.specs.Bad.{badDepth, badSize, badSide, badLossless, badTxType, anyBeyond};
 ghost use Rattle.answers.specs.Sizes.{side, area};
 
-// The answers of all calls and of the VBK reader, in the order of their numbers, 0 to 15.
+// The answers of all calls and of the VBK reader, in the order of their numbers, 0 to 16.
 pub enum Answer {
     Done,
     Depth,
@@ -24,6 +24,7 @@ pub enum Answer {
     TooLarge,
     LosslessByte,
     Report,
+    Place,
 }
 
 // Magnitude of dequantized values, of the 2D driver's input and of the quantizer's.
@@ -68,6 +69,7 @@ pub fn code(a: Answer) -> u32
         Answer::TooLarge => 13,
         Answer::LosslessByte => 14,
         Answer::Report => 15,
+        Answer::Place => 16,
     }
 }
 
@@ -125,6 +127,16 @@ pub fn bad_size(size: u32) -> bool
     ensures { λ r. ⌜ r ≡ badSize size ⌝ }
 {
     3 < size
+}
+
+// n is outside 2 to 5.
+pub fn bad_side(n: u32) -> bool
+    ensures { λ r. ⌜ r ≡ badSide n ⌝ }
+{
+    if n < 2 {
+        return true;
+    }
+    5 < n
 }
 
 // Lossless with a size other than 4 by 4.

@@ -5,10 +5,11 @@ use mathlib.Core.List.{List}
 use mathlib.Core.Logic.{⊎-elim, _≢_}
 use Prim.Native.Nat.{ℕ, zero, suc, _+_, _*_, _/_, _%_, _≤_, _<_}
 use native.Mathlib.Nat.{eq-or-lt-of-le, mul-one, add-comm, lt-of-lt-of-le}
+use native.Mathlib.Decide.{ℕ-discrete}
 use native.Mathlib.Omega.{arith}
-use borrow.Author.Tests.{lt-ltb, le-ltb}
+use borrow.Author.Tests.{lt-ltb, le-ltb, eq-eqb, ne-eqb}
 use lib.Arith.{digits-div, digits-mod, digits-lt}
-use lib.Dec.{ltb}
+use lib.Dec.{ltb, eqb}
 use lib.IntN.{ℤ, pos}
 use lib.ListN.{length, getD, List·getD-eq-default}
 use lib.Seq.{ext-getD}
@@ -16,10 +17,10 @@ use Rattle.whole.specs.Lists.{tabulate}
 use Rattle.whole.specs.Inner.{times}
 use Rattle.whole.proofs.Lists.{length-tabulate, getD-tabulate}
 use Rattle.whole.proofs.Loops.{times-keeps}
-use Rattle.blocks.specs.Block.{line, row, column, anew, rows, columns}
+use Rattle.blocks.specs.Block.{line, row, column, anew, rows, changeRow, columns}
 use Rattle.blocks.specs.Inner.{changeLine}
 use Rattle.blocks.proofs.Places.{in-row, in-column, rows-apart, columns-apart, le-or-lt, by-place}
-use Rattle.blocks.proofs.Lines.{line-same, changeLine-length, changeLine-other, changeLine-at}
+use Rattle.blocks.proofs.Lines.{line-same, line-at, changeLine-length, changeLine-other, changeLine-at}
 
 -- ---- a block made anew
 module _ (n0 : ℕ) (f : ℕ → ℕ → ℤ) (s : List ℤ) where
@@ -107,6 +108,46 @@ module _ (T : List ℤ → List ℤ) (n0 : ℕ) (s : List ℤ) where
 
   pub row-to-come : (i : ℕ) → i < n0 → row n0 i (times i (λ i. changeLine T (λ z. z) (i * n0) 1 n0) s) ≡ row n0 i s
   row-to-come i h = line-to-come T (λ z. z) (λ i. i * n0) 1 n0 n0 (rows-apart n0) i s h
+
+-- ---- one row changed: its numbers, all others, what is past the block; and that a line stored in its place is this
+module _ (T : List ℤ → List ℤ) (n0 i : ℕ) (s : List ℤ) where
+  pub changeRow-length : length (changeRow T n0 i s) ≡ length s
+  unfolding changeRow
+  changeRow-length = anew-length n0 (λ k j. getD (cond (eqb k i) (T (row n0 i s)) (row n0 k s)) j (pos 0)) s
+
+  pub changeRow-past : (p : ℕ) → n0 * n0 ≤ p → getD (changeRow T n0 i s) p (pos 0) ≡ getD s p (pos 0)
+  unfolding changeRow
+  changeRow-past p h = anew-past n0 (λ k j. getD (cond (eqb k i) (T (row n0 i s)) (row n0 k s)) j (pos 0)) s p h
+
+  pub changeRow-at : n0 * n0 ≤ length s → i < n0 → (j : ℕ) → j < n0 → getD (changeRow T n0 i s) (i * n0 + j) (pos 0) ≡ getD (T (row n0 i s)) j (pos 0)
+  unfolding changeRow
+  changeRow-at room hi j hj =
+      anew-at n0 (λ k j. getD (cond (eqb k i) (T (row n0 i s)) (row n0 k s)) j (pos 0)) s room i j hi hj ∙ rw (eq-eqb i i refl)
+
+  pub changeRow-other : n0 ≤ 32 → n0 * n0 ≤ length s → (k : ℕ) → k < n0 → k ≢ i → (j : ℕ) → j < n0 → getD (changeRow T n0 i s) (k * n0 + j) (pos 0) ≡ getD s (k * n0 + j) (pos 0)
+  unfolding changeRow
+  changeRow-other short room k hk ne j hj =
+      anew-at n0 (λ k j. getD (cond (eqb k i) (T (row n0 i s)) (row n0 k s)) j (pos 0)) s room k j hk hj
+      ∙ rw (ne-eqb k i ne) (rw (mul-one j) at (line-at (k * n0) 1 n0 s j short hj))
+
+  pub changeRow-line : n0 ≤ 32 → n0 * n0 ≤ length s → i < n0 → changeLine T (λ z. z) (i * n0) 1 n0 s ≡ changeRow T n0 i s
+  changeRow-line short room hi =
+      block-ext n0 (changeLine T (λ z. z) (i * n0) 1 n0 s) (changeRow T n0 i s)
+      (changeLine-length T (λ z. z) (i * n0) 1 n0 s ∙ sym changeRow-length)
+      (λ k j hk hj. by k j hk hj (ℕ-discrete k i))
+      (λ p h. changeLine-other T (λ z. z) (i * n0) 1 n0 s p (λ k hk e. let z : i * n0 + k * 1 < n0 * n0 = in-row n0 i k (n0 * n0) hi hk (omega arith) in omega arith)
+      ∙ sym (changeRow-past p h))
+    where
+      by : (k j : ℕ) → k < n0 → j < n0 → Dec (k ≡ i) → getD (changeLine T (λ z. z) (i * n0) 1 n0 s) (k * n0 + j) (pos 0) ≡ getD (changeRow T n0 i s) (k * n0 + j) (pos 0)
+      by k j hk hj (yes e) =
+          rw e
+          (rw (mul-one j) at (changeLine-at T (λ z. z) (i * n0) 1 n0 s j hj (in-row n0 i j (length s) hi hj room)
+          (λ l hl q w. let z : j ≡ l = rows-apart n0 i i j l hi hi hj hl w .1 in omega arith))
+          ∙ sym (changeRow-at room hi j hj))
+      by k j hk hj (no ne) =
+          changeLine-other T (λ z. z) (i * n0) 1 n0 s (k * n0 + j)
+          (λ l hl w. ne (rows-apart n0 k i j l hk hi hj hl (rw (mul-one j) w) .0))
+          ∙ sym (changeRow-other short room k hk ne j hj)
 
 module _ (T : List ℤ → List ℤ) (r : ℤ → ℤ) (n0 : ℕ) (s : List ℤ) where
   pub columns-length : length (columns T r n0 s) ≡ length s

@@ -1,4 +1,4 @@
--- Laws of the two-dimensional inverse transform: number (i, j), what is past the block, ranges through both passes, zero rows, the DC-only case.
+-- Laws of the two-dimensional inverse transform: number (i, j), what is past the block, ranges through both passes, the DC-only case.
 use mathlib.Core.Path.{_≡_, sym, ap, _∙_}
 use mathlib.Core.Bool.{Bool, true, false}
 use mathlib.Core.List.{List}
@@ -17,11 +17,11 @@ use Rattle.whole.proofs.Within.{within-le}
 use Rattle.steps.specs.Inner.{turned}
 use Rattle.steps.proofs.Shapes.{Zeros, Alone}
 use Rattle.dct.proofs.Dct.{dct-dc, dct-zeros, two-to-five}
-use Rattle.blocks.specs.Block.{line, row, column, anew, rows, columns, rowsThenColumns}
-use Rattle.blocks.specs.Inner.{changeLine, live, FirstWithin, dcValue, Possible, Safe}
+use Rattle.blocks.specs.Block.{row, column, anew, rows, columns, rowsThenColumns, live}
+use Rattle.blocks.specs.Inner.{FirstWithin, dcValue, Possible, Safe}
 use Rattle.blocks.specs.Inverse.{Pass, Dct, apply, rowPass, columnPass, bits, rounding, inverse2d}
 use Rattle.blocks.proofs.Places.{in-row, in-column, by-place}
-use Rattle.blocks.proofs.Lines.{line-length, line-at, fill-length, fill-at, fill-past, changeLine-still}
+use Rattle.blocks.proofs.Lines.{line-length, line-at, fill-length, fill-at, fill-past}
 use Rattle.blocks.proofs.Live.{dead-at}
 use Rattle.blocks.proofs.Blocks.{anew-length, anew-at, anew-past, block-ext, rows-length, rows-at, rows-past, columns-length, columns-at, columns-past}
 use Rattle.blocks.proofs.Passes.{Valid, first-each, each-first, pass-row, pass-column, row-valid, column-valid}
@@ -120,17 +120,6 @@ inverse2d-within n tx-type lossless s q room b =
           (column-grown n (q .least) (q .most) (columnPass tx-type lossless) (rows R (2 ^ n) s) (rw (rows-length R (2 ^ n) s) room)
           (column-valid n tx-type lossless q) (rows-within n (q .least) (q .most) (rowPass tx-type lossless) s room (row-valid n tx-type lossless q) b) j hj .each i hi)));
     }
-
--- ---- ZERO ROWS: a row of zeros stays as it is, whatever the pass
-pub zero-row : (p : Pass) (n n0 : ℕ) → ((t : List ℤ) → Zeros (n0) t → apply p n t ≡ t) → n0 ≤ 32 → (start : ℕ) (s : List ℤ) → live start (n0) s ≡ false
-    → changeLine (apply p n) (λ z. z) start 1 (n0) s ≡ s
-zero-row p n n0 f h start s e =
-    let t = line start 1 (n0) s in
-    let z : Zeros (n0) t = record {
-      long = rw (line-length start 1 (n0) s) h;
-      zeros = λ k l. line-at start 1 (n0) s k h l ∙ rw (NatL.mul-one k) (dead-at start (n0) s e k l);
-    } in
-    changeLine-still (apply p n) (λ z. z) start 1 (n0) s h (λ k l. ap (λ (u : List ℤ). getD u k (pos 0)) (f t z))
 
 -- ---- DC-ONLY: where all but place 0 is 0, type 0 gives one number everywhere
 module _ (n : ℕ) (l : 2 ≤ n) (h : n ≤ 5) (s : List ℤ) (room : 2 ^ n * 2 ^ n ≤ length s) (dead : live 1 (2 ^ n * 2 ^ n - 1) s ≡ false) where

@@ -1,4 +1,4 @@
--- Laws of lines: what stands in one, what `put` writes and leaves, and that a line of zeros stays.
+-- Laws of lines: what stands in one, what `put` writes and leaves.
 use mathlib.Core.Path.{_≡_, refl, sym, _∙_}
 use mathlib.Core.List.{List}
 use mathlib.Core.Logic.{⊎-elim, _≢_}
@@ -7,7 +7,7 @@ use native.Mathlib.Nat.{eq-or-lt-of-le}
 use native.Mathlib.Omega.{arith}
 use lib.IntN.{ℤ, pos}
 use lib.ListN.{length, getD, set, replicate, length-set}
-use lib.Seq.{getD-set-same, getD-set-other, set-getD, ext-getD}
+use lib.Seq.{getD-set-same, getD-set-other, ext-getD}
 use Rattle.whole.specs.Lists.{fill}
 use Rattle.whole.specs.Inner.{times}
 use Rattle.whole.proofs.Loops.{times-keeps}
@@ -102,13 +102,6 @@ pub setLine-length : (r : ℤ → ℤ) (start step n : ℕ) (t s : List ℤ) →
 unfolding setLine
 setLine-length r start step n t s = stores-length (λ k. start + k * step) (λ k. r (getD t k (pos 0))) n s
 
--- to put what stands there changes nothing
-pub setLine-same : (r : ℤ → ℤ) (start step n : ℕ) (t s : List ℤ) → ((k : ℕ) → k < n → r (getD t k (pos 0)) ≡ getD s (start + k * step) (pos 0)) → setLine r start step n t s ≡ s
-unfolding setLine
-setLine-same r start step n t s e =
-    times-keeps (λ y. y ≡ s) (λ k s. set s (start + k * step) (r (getD t k (pos 0)))) n s
-    (λ k h y q. rw q (rw (e k h) (set-getD s (start + k * step) (pos 0)))) refl
-
 module _ (T : List ℤ → List ℤ) (r : ℤ → ℤ) (start step n : ℕ) (s : List ℤ) where
   pub changeLine-length : length (changeLine T r start step n s) ≡ length s
   unfolding changeLine
@@ -122,8 +115,3 @@ module _ (T : List ℤ → List ℤ) (r : ℤ → ℤ) (start step n : ℕ) (s :
       → getD (changeLine T r start step n s) (start + k * step) (pos 0) ≡ r (getD (T (line start step n s)) k (pos 0))
   unfolding changeLine setLine
   changeLine-at k h l apart = stores-at (λ k. start + k * step) (λ k. r (getD (T (line start step n s)) k (pos 0))) n s k h l apart
-
-  -- ZERO ROWS: where T leaves the line as it is, and r its numbers, the block stays
-  pub changeLine-still : n ≤ 32 → ((k : ℕ) → k < n → r (getD (T (line start step n s)) k (pos 0)) ≡ getD (line start step n s) k (pos 0)) → changeLine T r start step n s ≡ s
-  unfolding changeLine
-  changeLine-still h e = setLine-same r start step n (T (line start step n s)) s (λ k l. e k l ∙ line-at start step n s k h l)

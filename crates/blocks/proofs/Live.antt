@@ -15,7 +15,7 @@ use mir.Val.{SFits, toZ, ofZ}
 use mir.Facts.{toZ-ofZ}
 use Rattle.whole.specs.Tests.{anyBelow}
 use Rattle.whole.proofs.Tests.{any-at, any-hit}
-use Rattle.blocks.specs.Inner.{live}
+use Rattle.blocks.specs.Block.{live}
 
 -- the machine compares bits with those of 0
 pub zero-bits : {z : ℤ} → SFits w64 z → ofZ w64 z ≡ 0 → z ≡ pos 0

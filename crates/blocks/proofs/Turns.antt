@@ -1,9 +1,8 @@
 -- A loop over the lines of a pass, turn by turn: the laws of its invariant, once for rows and columns, for every pass and every engine.
 use mathlib.Core.Path.{_≡_, refl, sym, ap, _∙_, subst}
-use mathlib.Core.Bool.{false}
 use mathlib.Core.List.{List}
 use Prim.Native.Nat.{ℕ, _+_, _*_, _^_, _≤_, _<_}
-use native.Mathlib.Nat.{le-antisymm, mul-one}
+use native.Mathlib.Nat.{le-antisymm}
 use native.Mathlib.Omega.{arith}
 use lib.IntN.{ℤ, pos}
 use lib.ListN.{length, getD, replicate}
@@ -12,15 +11,14 @@ use Rattle.whole.specs.Inner.{times}
 use Rattle.whole.proofs.Loops.{times-none, times-more}
 use Rattle.whole.proofs.Within.{within-le}
 use Rattle.steps.proofs.Places.{Stays}
-use Rattle.steps.proofs.Shapes.{Zeros}
 use Rattle.blocks.specs.Block.{line, rows, columns}
-use Rattle.blocks.specs.Inner.{setLine, changeLine, live, FirstWithin, Safe}
+use Rattle.blocks.specs.Inner.{setLine, changeLine, FirstWithin, Safe}
 use Rattle.blocks.specs.Inverse.{Pass, apply}
 use Rattle.blocks.proofs.Places.{in-row, in-column}
-use Rattle.blocks.proofs.Lines.{zeros-at, line-length, line-at, line-past, fill-line, setLine-length, changeLine-still}
+use Rattle.blocks.proofs.Lines.{zeros-at, line-length, line-past, fill-line, setLine-length}
 use Rattle.blocks.proofs.Blocks.{rows-loop, row-to-come, columns-loop, column-to-come}
-use Rattle.blocks.proofs.Passes.{Valid, pass-stays, pass-zeros}
-use Rattle.blocks.proofs.Inverse.{side-most, row-safe, row-grown, column-safe, column-grown, zero-row}
+use Rattle.blocks.proofs.Passes.{Valid, pass-stays}
+use Rattle.blocks.proofs.Inverse.{side-most, row-safe, row-grown, column-safe, column-grown}
 
 -- ---- what a pass over the block s₀ rests on, and what it comes to, g: n0 is 2^n, and line i is at base i, base i + step, ..
 pub record Job (p : Pass) (n n0 : ℕ) (r : ℤ → ℤ) (base : ℕ → ℕ) (step : ℕ) (s₀ g : List ℤ) : Type 0 where
@@ -30,7 +28,6 @@ pub record Job (p : Pass) (n n0 : ℕ) (r : ℤ → ℤ) (base : ℕ → ℕ) (s
   pub safe : (i : ℕ) → i < n0 → Safe p n (line (base i) step n0 s₀)
   pub grown : (i : ℕ) → i < n0 → FirstWithin (2 ^ 43) n0 (apply p n (line (base i) step n0 s₀))
   pub stays : (t : List ℤ) → Stays n0 t (apply p n t)
-  pub zeros : (t : List ℤ) → Zeros n0 t → apply p n t ≡ t
   pub whole : times n0 (λ i. changeLine (apply p n) r (base i) step n0) s₀ ≡ g
 
 -- all rows of a block within 2^31, and all columns of a block within 2^37
@@ -43,7 +40,6 @@ rows-job p n s₀ l h v room b = record {
   safe = row-safe n l h p s₀ room v b;
   grown = row-grown n l h p s₀ room v b;
   stays = pass-stays 2 p n v;
-  zeros = λ t z. pass-zeros 2 p n v z;
   whole = rows-loop (apply p n) (2 ^ n) s₀ room;
 }
 
@@ -56,7 +52,6 @@ columns-job p n r s₀ l h v room b = record {
   safe = column-safe n l h p s₀ room v b;
   grown = column-grown n l h p s₀ room v b;
   stays = pass-stays 0 p n v;
-  zeros = λ t z. pass-zeros 0 p n v z;
   whole = columns-loop (apply p n) r (2 ^ n) s₀ room;
 }
 
@@ -107,33 +102,3 @@ module _ {p : Pass} {n n0 : ℕ} {r : ℤ → ℤ} {base : ℕ → ℕ} {step : 
   -- at the end
   pub turn-done : n0 ≤ i → s ≡ g
   turn-done l = turn .done ∙ ap (λ (k : ℕ). times k (λ i. changeLine (apply p n) r (base i) step n0) s₀) (le-antisymm (turn .count) l) ∙ job .whole
-
--- a row of zeros is passed over
-pub turn-skip : {p : Pass} {n n0 : ℕ} {base : ℕ → ℕ} {s₀ g s t : List ℤ} {i : ℕ} → Job p n n0 (λ z. z) base 1 s₀ g → Turn p n n0 (λ z. z) base 1 s₀ s t i → i < n0
-    → live (base i) n0 s ≡ false → Turn p n n0 (λ z. z) base 1 s₀ s t (i + 1)
-turn-skip {p} {n} {n0} {base} {s₀} {g} {s} {t} {i} job turn hi e =
-    record {
-      count = omega arith;
-      done = times-more _ i s₀ (turn .done) (sym (zero-row p n n0 (job .zeros) (job .short) (base i) s e));
-      long = turn .long;
-      wide = turn .wide;
-      clean = turn .clean;
-    }
-
--- and so is one that was zeros before the pass began
-pub turn-dead : {p : Pass} {n n0 : ℕ} {base : ℕ → ℕ} {s₀ g s t : List ℤ} {i : ℕ} → Job p n n0 (λ z. z) base 1 s₀ g → Turn p n n0 (λ z. z) base 1 s₀ s t i → i < n0
-    → ((k : ℕ) → k < n0 → getD s₀ (base i + k) (pos 0) ≡ pos 0) → Turn p n n0 (λ z. z) base 1 s₀ s t (i + 1)
-turn-dead {p} {n} {n0} {base} {s₀} {g} {s} {t} {i} job turn hi e =
-    let u = line (base i) 1 n0 s in
-    let same : u ≡ line (base i) 1 n0 s₀ = ap (line (base i) 1 n0) (turn .done) ∙ job .come i hi in
-    let z : Zeros n0 u = record {
-      long = rw (line-length (base i) 1 n0 s) (job .short);
-      zeros = λ k l. ap (λ (x : List ℤ). getD x k (pos 0)) same ∙ line-at (base i) 1 n0 s₀ k (job .short) l ∙ rw (mul-one k) (e k l);
-    } in
-    record {
-      count = omega arith;
-      done = times-more _ i s₀ (turn .done) (sym (changeLine-still (apply p n) (λ z. z) (base i) 1 n0 s (job .short) (λ k l. ap (λ (x : List ℤ). getD x k (pos 0)) (job .zeros u z))));
-      long = turn .long;
-      wide = turn .wide;
-      clean = turn .clean;
-    }

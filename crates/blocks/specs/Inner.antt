@@ -1,13 +1,11 @@
 -- What only the contracts of inner functions read: one line of a block at a time, ranges, and the case of one number alone.
 use mathlib.Core.Path.{_≡_}
-use mathlib.Core.Bool.{Bool, true, false, not, _&&_}
+use mathlib.Core.Bool.{Bool, true, false}
 use mathlib.Core.List.{List}
-use Prim.Native.Nat.{ℕ, _+_, _-_, _*_, _^_, _≤_, _<_}
-use lib.Dec.{ltb, eqb}
-use lib.IntN.{ℤ, pos, natAbs}
+use Prim.Native.Nat.{ℕ, _+_, _*_, _^_, _≤_, _<_}
+use lib.IntN.{ℤ, pos}
 use lib.ListN.{getD, set}
 use Rattle.whole.specs.Round.{Round2}
-use Rattle.whole.specs.Tests.{anyBelow}
 use Rattle.whole.specs.Within.{Within}
 use Rattle.whole.specs.Inner.{Ok, times}
 use Rattle.steps.specs.Step.{step}
@@ -25,14 +23,6 @@ setLine r start step n t = times n (λ k s. set s (start + k * step) (r (getD t 
 -- a line replaced by what T and r make of it
 unfoldable pub changeLine : (List ℤ → List ℤ) → (ℤ → ℤ) → ℕ → ℕ → ℕ → List ℤ → List ℤ
 changeLine T r start step n s = setLine r start step n (T (line start step n s)) s
-
--- of the n numbers from `start` on some is not 0
-unfoldable pub live : ℕ → ℕ → List ℤ → Bool
-live start n s = anyBelow (λ k. ltb 0 (natAbs (getD s (start + k) (pos 0)))) n
-
--- the type is 0, and of `count` numbers only the first is live
-unfoldable pub onlyDc : ℕ → ℕ → List ℤ → Bool
-onlyDc count tx-type s = eqb tx-type 0 && not (live 1 (count - 1) s)
 
 -- the first n numbers are within m
 pub record FirstWithin (m n : ℕ) (s : List ℤ) : Type 0 where

@@ -4,7 +4,8 @@ ghost use lib.IntN.{pos, natAbs};
 ghost use lib.ListN.{length, getD};
 ghost use Rattle.whole.specs.Lists.{fill};
 ghost use Rattle.whole.specs.Round.{Round2};
-ghost use Rattle.blocks.specs.Inner.{setLine, live, FirstWithin};
+ghost use Rattle.blocks.specs.Block.{live};
+ghost use Rattle.blocks.specs.Inner.{setLine, FirstWithin};
 
 // The n numbers of s at start, start + step, .. into the first places of t.
 pub fn load(t: &mut [i64; 32], s: &[i64], start: usize, step: usize, n: usize)

@@ -10,7 +10,7 @@ pub fn room() -> [i64; 1040]
 }
 
 // How many numbers are lent: mostly those of the block.
-fn lent(r: u64, size: u32) -> usize {
+pub fn lent(r: u64, size: u32) -> usize {
     if r % 16 == 0 {
         return (r / 16 % 1041) as usize;
     }
@@ -18,7 +18,7 @@ fn lent(r: u64, size: u32) -> usize {
 }
 
 // n for a size number.
-fn exponent(size: u32) -> u32 {
+pub fn exponent(size: u32) -> u32 {
     if size < 4 {
         return size + 2;
     }

@@ -4,6 +4,7 @@ mod coder;
 mod drivers;
 mod files;
 mod reports;
+mod rows;
 mod samples;
 
 use libc::STDERR_FILENO;
@@ -11,7 +12,7 @@ use libc::STDIN_FILENO;
 use libc::STDOUT_FILENO;
 
 // Kinds of calls. A new one is added at the end.
-const KINDS: u64 = 9;
+const KINDS: u64 = 12;
 
 // The digest after one call more.
 fn one(kind: u64, key: u64, digest: u64) -> u64 {
@@ -24,7 +25,10 @@ fn one(kind: u64, key: u64, digest: u64) -> u64 {
         5 => coder::quantize(key, digest),
         6 => coder::max_codeable(key, digest),
         7 => files::run(key, digest),
-        _ => samples::reconstruct_report(key, digest),
+        8 => samples::reconstruct_report(key, digest),
+        9 => rows::row_summary(key, digest),
+        10 => rows::replace_token(key, digest),
+        _ => rows::inverse_transform_2d_rows(key, digest),
     }
 }
 
@@ -50,7 +54,10 @@ fn name(kind: u64) -> bool {
         5 => io::write_all(STDOUT_FILENO, b"quantize_block                 "),
         6 => io::write_all(STDOUT_FILENO, b"max_codeable_coef              "),
         7 => io::write_all(STDOUT_FILENO, b"replay and blockrun            "),
-        _ => io::write_all(STDOUT_FILENO, b"reconstruct_block_report       "),
+        8 => io::write_all(STDOUT_FILENO, b"reconstruct_block_report       "),
+        9 => io::write_all(STDOUT_FILENO, b"row_summary                    "),
+        10 => io::write_all(STDOUT_FILENO, b"replace_token                  "),
+        _ => io::write_all(STDOUT_FILENO, b"inverse_transform_2d_rows      "),
     }
 }
 

@@ -46,7 +46,7 @@ fn place(r: u64) -> usize {
 }
 
 // Tokens that are lent: mostly those of the block.
-fn tokens_lent(r: u64, size: u32) -> usize {
+pub fn tokens_lent(r: u64, size: u32) -> usize {
     if r % 32 == 0 {
         return (r / 32 % 1041) as usize;
     }
@@ -54,7 +54,7 @@ fn tokens_lent(r: u64, size: u32) -> usize {
 }
 
 // A scale of tokens: mostly small ones.
-fn scale(r: u64) -> u64 {
+pub fn scale(r: u64) -> u64 {
     match r % 8 {
         0 => 4,
         1 => 5,

@@ -118,7 +118,7 @@ pub fn density(r: u64) -> u64 {
 }
 
 // Numbers at the limits and one past them.
-fn edge(r: u64) -> i64 {
+pub fn edge(r: u64) -> i64 {
     match r % 16 {
         0 => 134217728,
         1 => -134217728,

@@ -1,3 +1,5 @@
 pub mod Told
 pub mod Run
 pub mod Report
+pub mod Rows
+pub mod Inner

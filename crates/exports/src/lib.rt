@@ -2,6 +2,8 @@
 use plane::Plane;
 use quant::AcQuant;
 use quant::DcQuant;
+use summary::Row;
+use summary::RowSummary;
 ghost use mathlib.Core.Path.{_≡_};
 ghost use mathlib.Core.List.{_∷_};
 ghost use Prim.Native.Nat.{_≤_};
@@ -9,6 +11,8 @@ ghost use lib.IntN.{pos};
 ghost use lib.ListN.{length, drop};
 ghost use Rattle.answers.specs.Limits.{codeable};
 ghost use Rattle.idct.specs.Driver.{answerOf, blockAfter};
+ghost use Rattle.summary.specs.Summary.{setRows, firstOf, lastOf};
+ghost use Rattle.summary.specs.Replace.{answerOf as replaceAnswer};
 ghost use Rattle.reconstruct.specs.Reconstruct.{answerOf as reconstructAnswer, samplesAfter};
 ghost use Rattle.report.specs.Report.{answerOf as reportAnswer};
 ghost use Rattle.fwd_transform.specs.ForwardWht.{whtAnswer, whtAfter};
@@ -16,7 +20,9 @@ ghost use Rattle.fwd_transform.specs.Quantize.{answerOf as quantizeAnswer, coef
 ghost use Rattle.vbk.specs.Promises.{Printed};
 ghost use Rattle.exports.specs.Told.{Told};
 ghost use Rattle.exports.specs.Report.{lentAfter};
+ghost use Rattle.exports.specs.Rows.{askedAnswer, askedAfter, rowNumber, replacedAfter, countingAnswer, countingAfter};
 ghost use Rattle.exports.specs.Run.{FIGURES, RunTold};
+ghost use Rattle.exports.specs.Inner.{placeOf};
 
 // Numbers that a run tells of itself: depth, width, height, records read, touched count.
 pub const FIGURES: usize = 5;
@@ -46,6 +52,103 @@ pub extern "C" fn bracetwill_inverse_transform_2d_reference(
     ensures { λ r. ⌜ Told answerOf blockAfter (record { block = now (block .entry); n = n; tx-type = «tx_type»; lossless = lossless }) r (now (block .exit)) ⌝ }
 {
     let a = idct::inverse_transform_2d_reference(block, n, tx_type, lossless);
+    answers::code(a)
+}
+
+// The 2D driver with the number of its row transforms, into the room for it, which stays under a refusal.
+#[no_mangle]
+pub extern "C" fn bracetwill_inverse_transform_2d_rows(
+    block: &mut [i64],
+    n: u32,
+    tx_type: u8,
+    lossless: bool,
+    rows: &mut u32,
+) -> u32
+    ensures { λ r. ⌜ Told countingAnswer countingAfter (record { input = record { block = now (block .entry); n = n; tx-type = «tx_type»; lossless = lossless }; room = now (rows .entry) }) r (record { block = now (block .exit); rows = now (rows .exit) }) ⌝ }
+{
+    let driven = idct::inverse_transform_2d_rows(block, n, tx_type, lossless);
+    let answer = driven.answer;
+    let number = answers::code(answer);
+    if number != 0 {
+        return number;
+    }
+    *rows = driven.rows;
+    number
+}
+
+// The summary of a block's rows, into the room for it, which stays under a refusal.
+#[no_mangle]
+pub extern "C" fn bracetwill_row_summary(block: &[i64], n: u32, summary: &mut u32) -> u32
+    ensures { λ r. ⌜ Told askedAnswer askedAfter (record { block = now (block .entry); n = n; room = now (summary .entry) }) r (now (summary .exit)) ⌝ }
+{
+    match summary::row_summary(block, n) {
+        RowSummary::Rows(rows) => {
+            *summary = rows;
+            0
+        }
+        RowSummary::Refused(answer) => answers::code(answer),
+    }
+}
+
+// How many rows a summary has.
+#[no_mangle]
+pub extern "C" fn bracetwill_row_count(summary: u32) -> u32
+    ensures { λ r. ⌜ r ≡ length (setRows summary) ⌝ }
+{
+    summary::row_count(summary)
+}
+
+// A row as C has it: -1 where there is none.
+fn row_number(row: Row) -> i32
+    requires { ⌜ placeOf row ≤ 31 ⌝ }
+    ensures { λ r. ⌜ r ≡ rowNumber row ⌝ }
+{
+    match row {
+        Row::None => -1,
+        Row::At(i) => i as i32,
+    }
+}
+
+// The first row of a summary.
+#[no_mangle]
+pub extern "C" fn bracetwill_first_row(summary: u32) -> i32
+    ensures { λ r. ⌜ r ≡ rowNumber (firstOf (setRows summary)) ⌝ }
+{
+    row_number(summary::first_row(summary))
+}
+
+// The last row of a summary.
+#[no_mangle]
+pub extern "C" fn bracetwill_last_row(summary: u32) -> i32
+    ensures { λ r. ⌜ r ≡ rowNumber (lastOf (setRows summary)) ⌝ }
+{
+    row_number(summary::last_row(summary))
+}
+
+// One token of a block replaced, with the summary beside it.
+#[no_mangle]
+pub extern "C" fn bracetwill_replace_token(
+    block: &mut [i64],
+    summary: &mut u32,
+    tx_sz: u32,
+    place: usize,
+    token: i64,
+    dc_quant: i32,
+    ac_quant: i32,
+    bit_depth: u32,
+) -> u32
+    ensures { λ r. ⌜ Told replaceAnswer replacedAfter (record { block = now (block .entry); summary = now (summary .entry); size = «tx_sz»; place = place; token = token; dc = record { 0 = «dc_quant» }; ac = record { 0 = «ac_quant» }; depth = «bit_depth» }) r (record { block = now (block .exit); rows = now (summary .exit) }) ⌝ }
+{
+    let a = summary::replace_token(
+        block,
+        summary,
+        tx_sz,
+        place,
+        token,
+        DcQuant(dc_quant),
+        AcQuant(ac_quant),
+        bit_depth,
+    );
     answers::code(a)
 }
 

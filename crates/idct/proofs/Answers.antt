@@ -15,30 +15,21 @@ use Rattle.whole.proofs.Within.{within-le}
 use Rattle.answers.specs.declared.Answer.{Answer}
 use Rattle.answers.specs.declared.Answer.the-variants.{Done, Coefficient}
 use Rattle.answers.specs.Answers.{number}
-use Rattle.answers.specs.Bad.{badLossless, badTxType, anyBeyond}
+use Rattle.answers.specs.Bad.{badSide, badRoom, badLossless, badTxType, anyBeyond}
 use Rattle.answers.specs.Limits.{COEF_LIMIT}
-use Rattle.answers.proofs.Passed.{none-within}
+use Rattle.answers.proofs.Passed.{side-range, none-within}
 use Rattle.dct.proofs.Dct.{two-to-five}
-use Rattle.blocks.specs.Inner.{onlyDc, live, FirstWithin, dcValue, Possible}
+use Rattle.blocks.specs.Block.{onlyDc, live}
+use Rattle.blocks.specs.Inner.{FirstWithin, dcValue, Possible}
 use Rattle.blocks.specs.Inverse.{inverse2d}
 use Rattle.blocks.proofs.Inverse.{dc-only, filled}
 use Rattle.answers.specs.Sizes.{side, area}
-use Rattle.idct.specs.Driver.{Input, badSide, badRoom, answerOf, blockAfter, Driven}
+use Rattle.idct.specs.Driver.{Input, answerOf, blockAfter, Driven}
 use Rattle.idct.specs.Inner.{shapeOf, Tried}
 use Rattle.idct.proofs.Beyond.{first-beyond}
 
 never : {A : Type 0} → true ≡ false → A
 never h = absurd (let z : _≡_ {A = ℕ} 0 1 = cc in omega arith)
-
--- ---- n is 2 to 5
-pub side-range : (n : ℕ) → badSide n ≡ false → (2 ≤ n) × (n ≤ 5)
-unfolding badSide
-side-range n h = go (ltb n 2) (ltb 5 n) refl refl
-  where
-    go : (a b : Bool) → ltb n 2 ≡ a → ltb 5 n ≡ b → (2 ≤ n) × (n ≤ 5)
-    go true b p q = never (rw (p) at h)
-    go false true p q = never (rw (p, q) at h)
-    go false false p q = (ltb-false n 2 p, ltb-false 5 n q)
 
 -- ---- lossless is 4 by 4; 32 by 32 has type 0
 small-side : (n : ℕ) → 2 ≤ n → eqb (n - 2) 0 ≡ true → n ≡ 2
@@ -91,7 +82,7 @@ any-type n tx-type s = refl
 pub any-tried : (n tx-type : ℕ) (s : List ℤ) {made : Bool} {after : List ℤ} → Tried (record { block = s; n = n; tx-type = 0; lossless = true }) made after
     → Tried (record { block = s; n = n; tx-type = tx-type; lossless = true }) made after
 unfolding inverse2d
-any-tried n tx-type s h = record { under = h .under; written = h .written; left = h .left }
+any-tried n tx-type s h = record { over = h .over; under = h .under; written = h .written; left = h .left }
 
 -- ---- the answer from its two parts
 shape : Input → ℕ
@@ -146,18 +137,17 @@ under u after h e = record { answered = rw h; written = rw h e }
 
 -- ---- the fast engine: the residual made, or the block left
 pub made : (u : Input) (after : List ℤ) → anyBeyond COEF_LIMIT (area (u .n)) (u .block) ≡ false → after ≡ inverse2d (u .n) (u .tx-type) (u .lossless) (u .block) → Tried u true after
-made u after h e = record { under = λ _. h; written = λ _. e; left = λ q. never q }
+made u after h e = record { over = λ q. never q; under = λ _. h; written = λ _. e; left = λ q. never q }
 
-pub left : (u : Input) → Tried u false (u .block)
-left u = record { under = λ q. never (sym q); written = λ q. never (sym q); left = λ _. refl }
+pub left : (u : Input) → anyBeyond COEF_LIMIT (area (u .n)) (u .block) ≡ true → Tried u false (u .block)
+left u h = record { over = λ _. h; under = λ q. never (sym q); written = λ q. never (sym q); left = λ _. refl }
 
--- made, it is what the drivers promise; left, the block is as it was for the reference
+-- made or left, it is what the drivers promise
 pub driven-made : (u : Input) {b : Bool} {after : List ℤ} → shapeOf (length (u .block)) (u .n) (u .tx-type) (u .lossless) ≡ 0 → b ≡ true → Tried u b after → Driven u Done after
 driven-made u {b} {after} e q t = driven u Done after e (under u after (t .under q) (t .written q))
 
-pub driven-left : (u : Input) {b : Bool} {s after : List ℤ} {a : Answer} → b ≡ false → Tried u b s
-    → Driven (record { block = s; n = u .n; tx-type = u .tx-type; lossless = u .lossless }) a after → Driven u a after
-driven-left u q t d = rw (t .left q) at d
+pub driven-left : (u : Input) {b : Bool} {after : List ℤ} → shapeOf (length (u .block)) (u .n) (u .tx-type) (u .lossless) ≡ 0 → b ≡ false → Tried u b after → Driven u Coefficient after
+driven-left u {b} {after} e q t = rw (t .left q) (driven u Coefficient (u .block) e (over u (t .over q)))
 
 -- sizes above 4 by 4 are not lossless
 module _ (s : List ℤ) (n tx-type : ℕ) (lossless : Bool) (e : shapeOf (length s) n tx-type lossless ≡ 0) (h : n ≡ 2 → ⊥) where

@@ -10,7 +10,7 @@ use lib.IntN.{ℤ, pos, natAbs}
 use lib.ListN.{getD}
 use Rattle.whole.specs.Tests.{anyBelow}
 use Rattle.answers.specs.Bad.{anyBeyond}
-use Rattle.blocks.specs.Inner.{live}
+use Rattle.blocks.specs.Block.{live}
 use Rattle.blocks.proofs.Live.{dead-at}
 
 any-first : (p : ℕ → Bool) (n : ℕ) → 0 < n → ((k : ℕ) → 0 < k → k < n → p k ≡ false) → anyBelow p n ≡ p 0

@@ -1,2 +1,4 @@
 pub mod Beyond
 pub mod Answers
+pub mod ByRows
+pub mod Counted

@@ -1,16 +1,16 @@
 -- The promise of the two-dimensional drivers: their answer, and the block afterwards.
 use mathlib.Core.Path.{_≡_}
-use mathlib.Core.Bool.{Bool, cond, _||_}
+use mathlib.Core.Bool.{Bool, cond}
 use mathlib.Core.List.{List, [], _∷_}
 use Prim.Native.Nat.{ℕ, _-_}
-use lib.Dec.{ltb, eqb}
+use lib.Dec.{eqb}
 use lib.IntN.{ℤ}
 use lib.ListN.{length}
 use Rattle.answers.specs.declared.Answer.{Answer}
 use Rattle.answers.specs.Answers.{number, lowest}
 use Rattle.answers.specs.Limits.{COEF_LIMIT}
 use Rattle.answers.specs.Sizes.{area}
-use Rattle.answers.specs.Bad.{badLossless, badTxType, anyBeyond}
+use Rattle.answers.specs.Bad.{badSide, badRoom, badLossless, badTxType, anyBeyond}
 use Rattle.blocks.specs.Inverse.{inverse2d}
 
 -- what a driver is given
@@ -19,14 +19,6 @@ pub record Input : Type 0 where
   pub n : ℕ
   pub tx-type : ℕ
   pub lossless : Bool
-
--- 2: n outside 2 to 5
-unfoldable pub badSide : ℕ → Bool
-badSide n = ltb n 2 || ltb 5 n
-
--- 6: fewer numbers than the block has
-abbrev pub badRoom : ℕ → ℕ → Bool
-badRoom count n = ltb count (area n)
 
 -- the answer: 9 where a number of the block is beyond its limit
 unfoldable pub answerOf : Input → ℕ

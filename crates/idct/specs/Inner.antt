@@ -7,9 +7,9 @@ use lib.IntN.{ℤ}
 use Rattle.answers.specs.Answers.{lowest}
 use Rattle.answers.specs.Limits.{COEF_LIMIT}
 use Rattle.answers.specs.Sizes.{area}
-use Rattle.answers.specs.Bad.{badLossless, badTxType, anyBeyond}
+use Rattle.answers.specs.Bad.{badSide, badRoom, badLossless, badTxType, anyBeyond}
 use Rattle.blocks.specs.Inverse.{inverse2d}
-use Rattle.idct.specs.Driver.{Input, badSide, badRoom}
+use Rattle.idct.specs.Driver.{Input}
 
 -- 2, 3, 4 and 6: the tests before any number of the block is read; the size number is n − 2
 unfoldable pub shapeOf : ℕ → ℕ → ℕ → Bool → ℕ
@@ -18,6 +18,7 @@ shapeOf count n tx-type lossless =
 
 -- what the fast engine comes to on a block of a size and type that there are, and with room: the residual, or nothing done
 pub record Tried (u : Input) (made : Bool) (after : List ℤ) : Type 0 where
+  pub over : made ≡ false → anyBeyond COEF_LIMIT (area (u .n)) (u .block) ≡ true
   pub under : made ≡ true → anyBeyond COEF_LIMIT (area (u .n)) (u .block) ≡ false
   pub written : made ≡ true → after ≡ inverse2d (u .n) (u .tx-type) (u .lossless) (u .block)
   pub left : made ≡ false → after ≡ u .block

@@ -1,5 +1,5 @@
 ghost use mathlib.Core.Path.{_≡_};
-ghost use mathlib.Core.Bool.{true, false};
+ghost use mathlib.Core.Bool.{true, false, not};
 ghost use Prim.Native.Nat.{_*_, _^_, _≤_};
 ghost use lib.Dec.{ltb};
 ghost use lib.IntN.{pos, natAbs};
@@ -10,9 +10,11 @@ ghost use Rattle.whole.specs.Within.{Within};
 ghost use Rattle.answers.specs.Bad.{anyBeyond};
 ghost use Rattle.answers.specs.Limits.{COEF_LIMIT};
 ghost use Rattle.answers.specs.Sizes.{area};
-ghost use Rattle.blocks.specs.Block.{rows, columns};
-ghost use Rattle.blocks.specs.Inner.{live, onlyDc, FirstWithin, dcValue, Possible, Safe};
+ghost use Rattle.whole.specs.Steps.{run};
+ghost use Rattle.blocks.specs.Block.{rows, changeRow, columns, onlyDc};
+ghost use Rattle.blocks.specs.Inner.{FirstWithin, dcValue, Possible, Safe};
 ghost use Rattle.blocks.specs.Inverse.{Dct, Wht, apply, lossy, inverse2d};
+ghost use Rattle.summary.specs.Summary.{those, isSet};
 ghost use Rattle.idct.specs.Inner.{Tried};
 
 // Sizes apart: their numbers are literals, so that the loops unroll.
@@ -50,14 +52,14 @@ fn line4(t: &mut [i64; 32], use_dct: bool)
     }
 }
 
-// Rows of zeros stay, and are passed over.
-fn rows2(block: &mut [i64], use_dct: bool)
+// The rows whose bit is set, and no other, whatever the summary is of.
+fn rows2(block: &mut [i64], summary: u32, use_dct: bool)
     requires { ⌜ (16 ≤ length (now block)) × FirstWithin (2 ^ 31) 16 (now block) ⌝ }
-    ensures { λ _. ⌜ now (block .exit) ≡ rows (apply (lossy «use_dct») 2) 4 (now (block .entry)) ⌝ }
+    ensures { λ _. ⌜ now (block .exit) ≡ run (changeRow (apply (lossy «use_dct») 2) 4) (those (isSet summary) 4) (now (block .entry)) ⌝ }
 {
     let mut t = [0i64; 32];
     for i in 0..4usize {
-        if blocks::any_live(block, i * 4, 4) {
+        if summary::is_set(summary, i) {
             blocks::load(&mut t, block, i * 4, 1, 4);
             line2(&mut t, use_dct);
             blocks::store(block, &t, i * 4, 1, 4);
@@ -65,13 +67,13 @@ fn rows2(block: &mut [i64], use_dct: bool)
     }
 }
 
-fn rows3(block: &mut [i64], use_dct: bool)
+fn rows3(block: &mut [i64], summary: u32, use_dct: bool)
     requires { ⌜ (64 ≤ length (now block)) × FirstWithin (2 ^ 31) 64 (now block) ⌝ }
-    ensures { λ _. ⌜ now (block .exit) ≡ rows (apply (lossy «use_dct») 3) 8 (now (block .entry)) ⌝ }
+    ensures { λ _. ⌜ now (block .exit) ≡ run (changeRow (apply (lossy «use_dct») 3) 8) (those (isSet summary) 8) (now (block .entry)) ⌝ }
 {
     let mut t = [0i64; 32];
     for i in 0..8usize {
-        if blocks::any_live_first(block, i * 8, 8) {
+        if summary::is_set(summary, i) {
             blocks::load(&mut t, block, i * 8, 1, 8);
             line3(&mut t, use_dct);
             blocks::store(block, &t, i * 8, 1, 8);
@@ -79,13 +81,13 @@ fn rows3(block: &mut [i64], use_dct: bool)
     }
 }
 
-fn rows4(block: &mut [i64], use_dct: bool)
+fn rows4(block: &mut [i64], summary: u32, use_dct: bool)
     requires { ⌜ (256 ≤ length (now block)) × FirstWithin (2 ^ 31) 256 (now block) ⌝ }
-    ensures { λ _. ⌜ now (block .exit) ≡ rows (apply (lossy «use_dct») 4) 16 (now (block .entry)) ⌝ }
+    ensures { λ _. ⌜ now (block .exit) ≡ run (changeRow (apply (lossy «use_dct») 4) 16) (those (isSet summary) 16) (now (block .entry)) ⌝ }
 {
     let mut t = [0i64; 32];
     for i in 0..16usize {
-        if blocks::any_live_first(block, i * 16, 16) {
+        if summary::is_set(summary, i) {
             blocks::load(&mut t, block, i * 16, 1, 16);
             line4(&mut t, use_dct);
             blocks::store(block, &t, i * 16, 1, 16);
@@ -93,13 +95,13 @@ fn rows4(block: &mut [i64], use_dct: bool)
     }
 }
 
-fn rows5(block: &mut [i64])
+fn rows5(block: &mut [i64], summary: u32)
     requires { ⌜ (1024 ≤ length (now block)) × FirstWithin (2 ^ 31) 1024 (now block) ⌝ }
-    ensures { λ _. ⌜ now (block .exit) ≡ rows (apply Dct 5) 32 (now (block .entry)) ⌝ }
+    ensures { λ _. ⌜ now (block .exit) ≡ run (changeRow (apply Dct 5) 32) (those (isSet summary) 32) (now (block .entry)) ⌝ }
 {
     let mut t = [0i64; 32];
     for i in 0..32usize {
-        if blocks::any_live_first(block, i * 32, 32) {
+        if summary::is_set(summary, i) {
             blocks::load(&mut t, block, i * 32, 1, 32);
             flat::idct_fast5(&mut t);
             blocks::store(block, &t, i * 32, 1, 32);
@@ -155,28 +157,18 @@ fn columns5(block: &mut [i64])
     }
 }
 
-// No row is passed over: all four are quicker than the tests between them.
-fn wht_rows(block: &mut [i64])
+fn wht_rows(block: &mut [i64], summary: u32)
     requires { ⌜ (16 ≤ length (now block)) × FirstWithin (2 ^ 31) 16 (now block) ⌝ }
-    ensures { λ _. ⌜ now (block .exit) ≡ rows (apply (Wht 2) 2) 4 (now (block .entry)) ⌝ }
+    ensures { λ _. ⌜ now (block .exit) ≡ run (changeRow (apply (Wht 2) 2) 4) (those (isSet summary) 4) (now (block .entry)) ⌝ }
 {
     let mut t = [0i64; 32];
     for i in 0..4usize {
-        blocks::load(&mut t, block, i * 4, 1, 4);
-        wht::inverse_wht(&mut t, 2);
-        blocks::store(block, &t, i * 4, 1, 4);
+        if summary::is_set(summary, i) {
+            blocks::load(&mut t, block, i * 4, 1, 4);
+            wht::inverse_wht(&mut t, 2);
+            blocks::store(block, &t, i * 4, 1, 4);
+        }
     }
-}
-
-// All rows, where those below the first are zeros.
-fn wht_first_row(block: &mut [i64])
-    requires { ⌜ (16 ≤ length (now block)) × FirstWithin (2 ^ 31) 16 (now block) × (live 4 12 (now block) ≡ false) ⌝ }
-    ensures { λ _. ⌜ now (block .exit) ≡ rows (apply (Wht 2) 2) 4 (now (block .entry)) ⌝ }
-{
-    let mut t = [0i64; 32];
-    blocks::load(&mut t, block, 0, 1, 4);
-    wht::inverse_wht(&mut t, 2);
-    blocks::store(block, &t, 0, 1, 4);
 }
 
 fn wht_columns(block: &mut [i64])
@@ -192,11 +184,33 @@ fn wht_columns(block: &mut [i64])
 }
 
 // Rows, then columns.
+fn wht_by_summary(block: &mut [i64])
+    requires { ⌜ (16 ≤ length (now block)) × FirstWithin (2 ^ 31) 16 (now block) ⌝ }
+    ensures { λ _. ⌜ now (block .exit) ≡ inverse2d 2 0 true (now (block .entry)) ⌝ }
+{
+    wht_rows(block, summary::scan(block, 4));
+    wht_columns(block);
+}
+
+// All four rows with no test: the quickest where no number of rows is told.
+fn wht_all_rows(block: &mut [i64])
+    requires { ⌜ (16 ≤ length (now block)) × FirstWithin (2 ^ 31) 16 (now block) ⌝ }
+    ensures { λ _. ⌜ now (block .exit) ≡ rows (apply (Wht 2) 2) 4 (now (block .entry)) ⌝ }
+{
+    let mut t = [0i64; 32];
+    for i in 0..4usize {
+        blocks::load(&mut t, block, i * 4, 1, 4);
+        wht::inverse_wht(&mut t, 2);
+        blocks::store(block, &t, i * 4, 1, 4);
+    }
+}
+
+// The same residual, for reconstruction.
 pub fn wht_passes(block: &mut [i64])
     requires { ⌜ (16 ≤ length (now block)) × FirstWithin (2 ^ 31) 16 (now block) ⌝ }
     ensures { λ _. ⌜ now (block .exit) ≡ inverse2d 2 0 true (now (block .entry)) ⌝ }
 {
-    wht_rows(block);
+    wht_all_rows(block);
     wht_columns(block);
 }
 
@@ -204,7 +218,7 @@ fn passes2(block: &mut [i64], tx_type: u8)
     requires { ⌜ (16 ≤ length (now block)) × FirstWithin (2 ^ 31) 16 (now block) ⌝ }
     ensures { λ _. ⌜ now (block .exit) ≡ inverse2d 2 «tx_type» false (now (block .entry)) ⌝ }
 {
-    rows2(block, crate::row_dct(tx_type));
+    rows2(block, summary::scan(block, 4), crate::row_dct(tx_type));
     columns2(block, crate::column_dct(tx_type));
 }
 
@@ -212,7 +226,7 @@ fn passes3(block: &mut [i64], tx_type: u8)
     requires { ⌜ (64 ≤ length (now block)) × FirstWithin (2 ^ 31) 64 (now block) ⌝ }
     ensures { λ _. ⌜ now (block .exit) ≡ inverse2d 3 «tx_type» false (now (block .entry)) ⌝ }
 {
-    rows3(block, crate::row_dct(tx_type));
+    rows3(block, summary::scan(block, 8), crate::row_dct(tx_type));
     columns3(block, crate::column_dct(tx_type));
 }
 
@@ -220,7 +234,7 @@ fn passes4(block: &mut [i64], tx_type: u8)
     requires { ⌜ (256 ≤ length (now block)) × FirstWithin (2 ^ 31) 256 (now block) ⌝ }
     ensures { λ _. ⌜ now (block .exit) ≡ inverse2d 4 «tx_type» false (now (block .entry)) ⌝ }
 {
-    rows4(block, crate::row_dct(tx_type));
+    rows4(block, summary::scan(block, 16), crate::row_dct(tx_type));
     columns4(block, crate::column_dct(tx_type));
 }
 
@@ -228,7 +242,7 @@ fn passes5(block: &mut [i64])
     requires { ⌜ (1024 ≤ length (now block)) × FirstWithin (2 ^ 31) 1024 (now block) ⌝ }
     ensures { λ _. ⌜ now (block .exit) ≡ inverse2d 5 0 false (now (block .entry)) ⌝ }
 {
-    rows5(block);
+    rows5(block, summary::scan(block, 32));
     columns5(block);
 }
 
@@ -259,8 +273,19 @@ fn surely_within(block: &[i64], count: usize) -> bool
     blocks::or_plus_most(block, 0, count, answers::COEF_LIMIT) < 2 * answers::COEF_LIMIT
 }
 
+// None of the first `count` numbers is beyond the limit.
+fn within(block: &[i64], count: usize) -> bool
+    requires { ⌜ count ≤ length (now block) ⌝ }
+    ensures { λ r. ⌜ r ≡ not (anyBeyond COEF_LIMIT count (now (block .entry))) ⌝ }
+{
+    if surely_within(block, count) {
+        return true;
+    }
+    !answers::any_beyond(block, count, answers::COEF_LIMIT)
+}
+
 // Whether the type is 0 and only place 0 of the `count` numbers is live.
-fn only_dc(block: &[i64], count: usize, tx_type: u8) -> bool
+pub fn only_dc(block: &[i64], count: usize, tx_type: u8) -> bool
     requires { ⌜ (2 ≤ count) × (count ≤ length (now block)) ⌝ }
     ensures { λ r. ⌜ r ≡ onlyDc count «tx_type» (now (block .entry)) ⌝ }
 {
@@ -312,27 +337,16 @@ pub fn inverse4(block: &mut [i64], tx_type: u8)
     passes2(block, tx_type);
 }
 
-// Each of the following makes the residual and says true, or leaves the block and says false: a number is at the limit or beyond it.
+// Each of the following makes the residual and says true, or leaves the block and says false: a number is beyond its limit.
 
 fn try_wht4(block: &mut [i64]) -> bool
     requires { ⌜ 16 ≤ length (now block) ⌝ }
     ensures { λ r. ⌜ Tried (record { block = now (block .entry); n = 2; tx-type = 0; lossless = true }) r (now (block .exit)) ⌝ }
 {
-    let first = blocks::or_plus_most(block, 0, 4, answers::COEF_LIMIT);
-    let rest = blocks::or_plus_most(block, 4, 12, answers::COEF_LIMIT);
-    if 2 * answers::COEF_LIMIT <= (first | rest) {
+    if !within(block, 16) {
         return false;
     }
-    // As zeros leave it; asked before the zeros, because it is at hand.
-    if rest == answers::COEF_LIMIT {
-        if !blocks::any_live(block, 4, 12) {
-            wht_first_row(block);
-            wht_columns(block);
-            return true;
-        }
-    }
-    wht_rows(block);
-    wht_columns(block);
+    wht_by_summary(block);
     true
 }
 
@@ -340,7 +354,7 @@ fn try_lossy4(block: &mut [i64], tx_type: u8) -> bool
     requires { ⌜ 16 ≤ length (now block) ⌝ }
     ensures { λ r. ⌜ Tried (record { block = now (block .entry); n = 2; tx-type = «tx_type»; lossless = false }) r (now (block .exit)) ⌝ }
 {
-    if !surely_within(block, 16) {
+    if !within(block, 16) {
         return false;
     }
     inverse4(block, tx_type);
@@ -371,7 +385,7 @@ pub fn try_larger(block: &mut [i64], n: u32, tx_type: u8) -> bool
         dc_fill(block, n, n0 * n0);
         return true;
     }
-    if !surely_within(block, n0 * n0) {
+    if !within(block, n0 * n0) {
         return false;
     }
     both_passes(block, n, tx_type);

@@ -4,23 +4,21 @@ ghost use mathlib.Core.Bool.{_||_};
 ghost use Prim.Native.Nat.{_*_, _≤_};
 ghost use lib.Dec.{eqb};
 ghost use Rattle.answers.specs.Answers.{number};
-ghost use Rattle.answers.specs.Sizes.{side};
+ghost use lib.ListN.{length};
+ghost use Rattle.answers.specs.Sizes.{side, area};
 ghost use Rattle.blocks.specs.Inverse.{bits};
-ghost use Rattle.idct.specs.Driver.{badSide, Driven};
+ghost use Rattle.idct.specs.Driver.{Driven};
+ghost use Rattle.idct.specs.Rows.{dcOnly, rowList, Rowed};
 ghost use Rattle.idct.specs.Inner.{shapeOf};
 
 // The drivers' engines: as the specification goes, and the fast one.
 pub mod fast;
 mod reference;
 
-// n is outside 2 to 5.
-fn bad_side(n: u32) -> bool
-    ensures { λ r. ⌜ r ≡ badSide n ⌝ }
-{
-    if n < 2 {
-        return true;
-    }
-    5 < n
+// The answer of a driver and the number of row transforms.
+pub struct DrivenRows {
+    pub answer: Answer,
+    pub rows: u32,
 }
 
 // Numbers in a line.
@@ -72,7 +70,7 @@ fn column_dct(tx_type: u8) -> bool
 fn shape(count: usize, n: u32, tx_type: u8, lossless: bool) -> Answer
     ensures { λ r. ⌜ number r ≡ shapeOf count n «tx_type» lossless ⌝ }
 {
-    if bad_side(n) {
+    if answers::bad_side(n) {
         return Answer::Size;
     }
     if answers::bad_lossless(lossless, n - 2) {
@@ -121,10 +119,10 @@ fn small(block: &mut [i64], tx_type: u8, lossless: bool) -> Answer
     if fast::try_4(block, tx_type, lossless) {
         return Answer::Done;
     }
-    inverse_transform_2d_reference(block, 2, tx_type, lossless)
+    Answer::Coefficient
 }
 
-// The residual of the block, in its place, by the fast engine. A block at the limit or beyond it goes to the reference, whose test is exact.
+// The residual of the block, in its place, by the fast engine.
 pub fn inverse_transform_2d(block: &mut [i64], n: u32, tx_type: u8, lossless: bool) -> Answer
     ensures { λ r. ⌜ Driven (record { block = now (block .entry); n = n; tx-type = «tx_type»; lossless = lossless }) r (now (block .exit)) ⌝ }
 {
@@ -138,5 +136,58 @@ pub fn inverse_transform_2d(block: &mut [i64], n: u32, tx_type: u8, lossless: bo
     if fast::try_larger(block, n, tx_type) {
         return Answer::Done;
     }
-    inverse_transform_2d_reference(block, n, tx_type, lossless)
+    Answer::Coefficient
+}
+
+// Not lossless, of type 0, and only place 0 is live.
+fn dc_only(block: &[i64], n: u32, tx_type: u8, lossless: bool) -> bool
+    requires { ⌜ (2 ≤ n) × (n ≤ 5) × (area n ≤ length (now block)) ⌝ }
+    ensures { λ r. ⌜ r ≡ dcOnly (record { block = now (block .entry); n = n; tx-type = «tx_type»; lossless = lossless }) ⌝ }
+{
+    if lossless {
+        return false;
+    }
+    let n0 = side(n);
+    fast::only_dc(block, n0 * n0, tx_type)
+}
+
+// How many rows of a block that is taken are transformed: the set bits of its summary, and none where only place 0 is live.
+fn row_transforms(block: &[i64], n: u32, tx_type: u8, lossless: bool) -> u32
+    requires { ⌜ (2 ≤ n) × (n ≤ 5) × (area n ≤ length (now block)) ⌝ }
+    ensures { λ r. ⌜ r ≡ length (rowList (record { block = now (block .entry); n = n; tx-type = «tx_type»; lossless = lossless })) ⌝ }
+{
+    if dc_only(block, n, tx_type, lossless) {
+        return 0;
+    }
+    summary::row_count(summary::scan(block, side(n)))
+}
+
+// The same, and the number of row transforms, which is 0 under a refusal.
+pub fn inverse_transform_2d_rows(
+    block: &mut [i64],
+    n: u32,
+    tx_type: u8,
+    lossless: bool,
+) -> DrivenRows
+    ensures { λ r. ⌜ Rowed (record { block = now (block .entry); n = n; tx-type = «tx_type»; lossless = lossless }) (r .answer) (r .rows) (now (block .exit)) ⌝ }
+{
+    let answer = shape(block.len(), n, tx_type, lossless);
+    if answers::code(answer) != 0 {
+        return DrivenRows {
+            answer: answer,
+            rows: 0,
+        };
+    }
+    let rows = row_transforms(block, n, tx_type, lossless);
+    let driven = inverse_transform_2d(block, n, tx_type, lossless);
+    if answers::code(driven) != 0 {
+        return DrivenRows {
+            answer: driven,
+            rows: 0,
+        };
+    }
+    DrivenRows {
+        answer: Answer::Done,
+        rows: rows,
+    }
 }

@@ -3,12 +3,18 @@ use mathlib.Core.Path.{_≡_, sym, ap, _∙_}
 use mathlib.Core.List.{List}
 use Prim.Native.Nat.{ℕ}
 use lib.IntN.{ℤ, pos}
+use lib.ListN.{length}
 use denote.Ref.{RefT, now}
 use Rattle.answers.specs.declared.Answer.{Answer}
 use Rattle.answers.specs.Answers.{number}
 use Rattle.answers.specs.Limits.{codeable}
 use Rattle.answers.proofs.Numbers.{number-injective}
+use Rattle.summary.specs.declared.Row.{Row}
+use Rattle.summary.specs.declared.RowSummary.{RowSummary}
+use Rattle.summary.specs.Summary.{setRows, firstOf, lastOf, summarized}
+use Rattle.summary.specs.Replace as Z
 use Rattle.idct.specs.Driver as D
+use Rattle.idct.specs.Rows.{Rowed}
 use Rattle.reconstruct.specs.Reconstruct as R
 use Rattle.report.specs.Report as P
 use Rattle.fwd_transform.specs.Quantize as Q
@@ -22,6 +28,7 @@ use Rattle.vbk_read.specs.declared.Reader.{Reader}
 use Rattle.vbk.specs.Promises.{Replayed, Printed}
 use Rattle.vbk.specs.declared.Run.{Run}
 use Rattle.exports.specs.Told.{Told}
+use Rattle.exports.specs.Rows.{rowNumber}
 use Rattle.exports.specs.Run.{RunTold}
 
 -- two answers with one number, and two values with one definition
@@ -34,6 +41,35 @@ same p q = p ∙ sym q
 -- `inverse_transform_2d` and `inverse_transform_2d_reference`, and so the two give one result
 pub driver-unique : (u : D.Input) (a b : Answer) (s t : List ℤ) → D.Driven u a s → D.Driven u b t → (a ≡ b) × (s ≡ t)
 driver-unique u a b s t p q = (same-answer (D.answerOf u) a b (p .answered) (q .answered), same (p .written) (q .written))
+
+-- `inverse_transform_2d_rows`
+pub rows-unique : (u : D.Input) (a b : Answer) (k l : ℕ) (s t : List ℤ) → Rowed u a k s → Rowed u b l t → (a ≡ b) × (k ≡ l) × (s ≡ t)
+rows-unique u a b k l s t p q =
+    (same-answer (D.answerOf u) a b (p .answered) (q .answered), same (p .counted) (q .counted), same (p .written) (q .written))
+
+-- `row_summary`
+pub summary-unique : (n : ℕ) (block : List ℤ) (r t : RowSummary) → r ≡ summarized n block → t ≡ summarized n block → r ≡ t
+summary-unique n block r t p q = same p q
+
+-- `row_count` and its export
+pub row-count-unique : (m r t : ℕ) → r ≡ length (setRows m) → t ≡ length (setRows m) → r ≡ t
+row-count-unique m r t p q = same p q
+
+-- `first_row` and `last_row`
+pub first-row-unique : (m : ℕ) (r t : Row) → r ≡ firstOf (setRows m) → t ≡ firstOf (setRows m) → r ≡ t
+first-row-unique m r t p q = same p q
+
+pub last-row-unique : (m : ℕ) (r t : Row) → r ≡ lastOf (setRows m) → t ≡ lastOf (setRows m) → r ≡ t
+last-row-unique m r t p q = same p q
+
+-- `bracetwill_first_row` and `bracetwill_last_row`
+pub row-told-unique : (row : Row) (r t : ℤ) → r ≡ rowNumber row → t ≡ rowNumber row → r ≡ t
+row-told-unique row r t p q = same p q
+
+-- `replace_token`
+pub replace-unique : (u : Z.Input) (a b : Answer) (s t : List ℤ) (m n : ℕ) → Z.Replaced u a s m → Z.Replaced u b t n → (a ≡ b) × (s ≡ t) × (m ≡ n)
+replace-unique u a b s t m n p q =
+    (same-answer (Z.answerOf u) a b (p .answered) (q .answered), same (p .written) (q .written), same (p .kept) (q .kept))
 
 -- `reconstruct_block`
 pub reconstruct-unique : (u : R.Input) (a b : Answer) (s t : List ℕ) → R.Reconstructed u a s → R.Reconstructed u b t → (a ≡ b) × (s ≡ t)
@@ -106,7 +142,7 @@ pub blockrun-unique : (s samples answers out : List ℕ) (r t : ℕ) (p₁ p₂ 
 blockrun-unique s samples answers out r t p₁ p₂ a₁ a₂ o₁ o₂ p q =
     (same (p .length-is) (q .length-is), same (p .samples-are) (q .samples-are), same (p .answers-are) (q .answers-are), same (p .text-is) (q .text-is))
 
--- `bracetwill_inverse_transform_2d`, its reference, `bracetwill_reconstruct_block`, `bracetwill_reconstruct_block_report`, `bracetwill_forward_wht_2d`, `bracetwill_quantize_block_tx` and `bracetwill_quantize_block`
+-- `bracetwill_inverse_transform_2d`, its reference, `bracetwill_inverse_transform_2d_rows`, `bracetwill_row_summary`, `bracetwill_replace_token`, `bracetwill_reconstruct_block`, `bracetwill_reconstruct_block_report`, `bracetwill_forward_wht_2d`, `bracetwill_quantize_block_tx` and `bracetwill_quantize_block`
 pub told-unique : {Given Lent : Type 0} (answer : Given → ℕ) (after : Given → Lent) (u : Given) (r t : ℕ) (k l : Lent) → Told answer after u r k
     → Told answer after u t l → (r ≡ t) × (k ≡ l)
 told-unique answer after u r t k l p q = (same (p .answered) (q .answered), same (p .written) (q .written))

@@ -10,7 +10,7 @@ use lib.ListN.{length}
 use Rattle.answers.specs.declared.Answer.{Answer}
 use Rattle.answers.specs.Answers.{number}
 use Rattle.answers.specs.Limits.{COEF_LIMIT, WHT_LIMIT, SIDE_LIMIT, LIST_LIMIT, codeable}
-use Rattle.answers.specs.Bad.{badDepth, badSize, badLossless, badTxType, badQuantizer, anyBeyond}
+use Rattle.answers.specs.Bad.{badDepth, badSize, badSide, badRoom, badLossless, badTxType, badQuantizer, anyBeyond}
 use Rattle.answers.proofs.Numbers.{Applies, there}
 use Rattle.plane.specs.Place.{areaOf}
 use Rattle.quant.specs.Places.{dequantAll}
@@ -26,12 +26,12 @@ use Rattle.promises.proofs.Exactly.{none, more, here-if, exactly}
 use Rattle.promises.proofs.Tests as T
 
 -- ---- n outside 2 to 5
-no-side : (n : ℕ) → D.badSide n ≡ true → 2 ≤ n → n ≤ 5 → ⊥
-unfolding D.badSide
+pub no-side : (n : ℕ) → badSide n ≡ true → 2 ≤ n → n ≤ 5 → ⊥
+unfolding badSide
 no-side n h l m = T.never (rw (le-ltb n 2 l, le-ltb 5 n m) at h)
 
-side-test : (n : ℕ) → (2 ≤ n → n ≤ 5 → ⊥) → D.badSide n ≡ true
-unfolding D.badSide
+pub side-test : (n : ℕ) → (2 ≤ n → n ≤ 5 → ⊥) → badSide n ≡ true
+unfolding badSide
 side-test n h = go (ltb n 2) (ltb 5 n) refl refl
   where
     go : (x y : Bool) → ltb n 2 ≡ x → ltb 5 n ≡ y → ltb n 2 || ltb 5 n ≡ true
@@ -42,10 +42,10 @@ side-test n h = go (ltb n 2) (ltb 5 n) refl refl
 -- ---- the 2D drivers
 driver-has : (u : D.Input) (n : ℕ) → W.Driver u n
     → Applies n
-    ((2, D.badSide (u .n))
+    ((2, badSide (u .n))
     ∷ (3, badLossless (u .lossless) (u .n - 2))
     ∷ (4, badTxType (u .lossless) (u .n - 2) (u .tx-type))
-    ∷ (6, D.badRoom (length (u .block)) (u .n))
+    ∷ (6, badRoom (length (u .block)) (u .n))
     ∷ (9, anyBeyond COEF_LIMIT (area (u .n)) (u .block))
     ∷ [])
 driver-has u n (W.side h) = here-if 2 _ _ (side-test (u .n) h)
@@ -54,7 +54,7 @@ driver-has u n (W.tx-type h) = there (there (here-if 4 _ _ (T.tx-type-test (u .l
 driver-has u n (W.room h) = there (there (there (here-if 6 _ _ (lt-ltb (length (u .block)) (area (u .n)) h))))
 driver-has u n (W.coefficient h) = there (there (there (there (here-if 9 _ _ (T.beyond-test COEF_LIMIT (area (u .n)) (u .block) h)))))
 
-driver-exactly : (u : D.Input) → Exactly (W.Driver u) (D.answerOf u)
+pub driver-exactly : (u : D.Input) → Exactly (W.Driver u) (D.answerOf u)
 unfolding D.answerOf
 driver-exactly u =
     exactly (W.Driver u) _ tt

@@ -1,15 +1,18 @@
 -- The numbers of docs/REFERENCE.md that are proved, in one table: what a definition gives, beside what is said there.
 use mathlib.Core.Bool.{false}
-use mathlib.Core.List.{List, [], _∷_}
+use mathlib.Core.List.{List, [], _∷_, _++_}
 use Prim.Native.Nat.{ℕ}
 use lib.IntN.{ℤ, pos, negsuc}
-use lib.ListN.{replicate, take}
+use lib.ListN.{length, replicate, take}
 use Rattle.answers.specs.Limits.{codeable}
 use Rattle.primitives.specs.Brev.{Brev}
 use Rattle.primitives.specs.Cosine.{Cos64, Sin64}
 use Rattle.wht.specs.Wht.{wht}
 use Rattle.quant.specs.Token.{quantize}
 use Rattle.blocks.specs.Inverse.{inverse2d}
+use Rattle.summary.specs.Summary.{setRows, summaryOf, firstOf, lastOf}
+use Rattle.summary.specs.Replace.{summaryAfter}
+use Rattle.exports.specs.Rows.{rowNumber}
 
 -- a row of the table
 pub record Row : Type 0 where
@@ -27,6 +30,18 @@ dcBlock x said = record { given = inverse2d 2 0 false (x ∷ replicate 15 (pos 0
 -- the token of a coefficient at a depth of 8
 abbrev token : ℕ → ℤ → ℤ → ℤ → Row
 token size q coef said = one (quantize size (codeable 8) q coef) said
+
+-- what a summary says: how many rows, the first and the last, −1 for none
+abbrev says : ℕ → ℤ → ℤ → ℤ → Row
+says m count first last =
+    record { given = pos (length (setRows m)) ∷ rowNumber (firstOf (setRows m)) ∷ rowNumber (lastOf (setRows m)) ∷ []; said = count ∷ first ∷ last ∷ [] }
+
+-- the summary of a 32 by 32 block of zeros after a token at its last place, under quantizers of 1
+abbrev halved : ℤ → ℤ → Row
+halved t said =
+    one
+    (pos (summaryAfter (record { block = replicate 1024 (pos 0); summary = 0; size = 3; place = 1023; token = t; dc = record { 0 = pos 1 }; ac = record { 0 = pos 1 }; depth = 8 })))
+    said
 
 -- the numbers marked P, in the order of their table
 unfoldable pub numbers : List Row
@@ -47,6 +62,11 @@ numbers =
     ∷ token 0 (pos 4) (pos 6) (pos 1)
     ∷ token 0 (pos 4) (pos 7) (pos 2)
     ∷ token 3 (pos 3) (pos 2) (pos 1)
+    ∷ one (pos (summaryOf 4 (pos 0 ∷ pos 7 ∷ replicate 7 (pos 0) ++ (negsuc 8 ∷ replicate 6 (pos 0))))) (pos 5)
+    ∷ says 5 (pos 2) (pos 0) (pos 2)
+    ∷ says 0 (pos 0) (negsuc 0) (negsuc 0)
+    ∷ halved (pos 1) (pos 0)
+    ∷ halved (pos 2) (pos 2147483648)
     ∷ []
 
 -- what the definitions give

@@ -2,11 +2,12 @@
 use mathlib.Core.Path.{_≡_}
 use mathlib.Core.List.{List, [], _∷_}
 use Prim.Native.Nat.{ℕ, suc, _+_, _-_, _*_, _≤_, _<_}
-use lib.IntN.{ℤ}
+use lib.IntN.{ℤ, natAbs}
 use lib.ListN.{length}
 use Rattle.answers.specs.Limits.{COEF_LIMIT, WHT_LIMIT, SIDE_LIMIT, LIST_LIMIT, FILE_LIMIT, AREA_LIMIT, codeable}
 use Rattle.quant.specs.Places.{dequantAll}
 use Rattle.answers.specs.Sizes.{area}
+use Rattle.summary.specs.Replace as Z
 use Rattle.idct.specs.Driver as D
 use Rattle.reconstruct.specs.Reconstruct as R
 use Rattle.report.specs.Report as P
@@ -25,6 +26,26 @@ pub data Driver (u : D.Input) : ℕ → Type 0 where
   tx-type : NoTxType (u .lossless) (u .n - 2) (u .tx-type) → Driver u 4
   room : length (u .block) < area (u .n) → Driver u 6
   coefficient : SomeBeyond COEF_LIMIT (area (u .n)) (u .block) → Driver u 9
+
+-- the row summary
+pub data Summary (n : ℕ) (block : List ℤ) : ℕ → Type 0 where
+  side : (2 ≤ n → n ≤ 5 → ⊥) → Summary n block 2
+  room : length block < area n → Summary n block 6
+
+-- one token replaced, step by step: the place comes before the token
+pub data Replace (u : Z.Input) : ℕ → Type 0 where
+  depth : NoDepth (u .depth) → Replace u 1
+  size : 3 < u .size → Replace u 2
+  dc : NoQuantizer (u .dc .0) → Replace u 3
+  ac : NoQuantizer (u .ac .0) → Replace u 3
+  count : (length (u .block) ≡ area (u .size + 2) → ⊥) → Replace u 4
+  place : area (u .size + 2) ≤ u .place → Replace u 5
+  token : codeable (u .depth) < natAbs (u .token) → Replace u 6
+  coefficient : COEF_LIMIT < natAbs (Z.coefficient u) → Replace u 7
+
+-- the number of each step of a replacement, 0 for none
+abbrev pub replaceNumbers : List ℕ
+replaceNumbers = 0 ∷ 1 ∷ 2 ∷ 5 ∷ 6 ∷ 16 ∷ 8 ∷ 9 ∷ []
 
 -- reconstruction
 pub data Reconstruct (u : R.Input) : ℕ → Type 0 where

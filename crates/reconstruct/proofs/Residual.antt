@@ -31,8 +31,8 @@ use Rattle.plane.specs.declared.Plane.{Plane}
 use Rattle.plane.specs.Place.{SamplesOf}
 use Rattle.plane.specs.Plane.{planeAfter}
 use Rattle.plane.proofs.Block.{same-residuals}
-use Rattle.blocks.specs.Block.{row, column, rows, anew}
-use Rattle.blocks.specs.Inner.{onlyDc, live, FirstWithin, dcValue, Possible}
+use Rattle.blocks.specs.Block.{row, column, rows, anew, onlyDc, live}
+use Rattle.blocks.specs.Inner.{FirstWithin, dcValue, Possible}
 use Rattle.blocks.specs.Inverse.{apply, rowPass, columnPass, bits, rounding, inverse2d}
 use Rattle.blocks.proofs.Places.{in-row, in-column, by-place}
 use Rattle.blocks.proofs.Lines.{line-same, zeros-at}

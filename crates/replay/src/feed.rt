@@ -45,7 +45,7 @@ fn read_behind(buf: &mut [u8], from: usize) -> usize
 }
 
 // Line `number`: a comment, nothing, or a call.
-fn one_line(line: &[u8], number: u64, numbers: &mut [i64], counts: &mut [u64; 128]) {
+fn one_line(line: &[u8], number: u64, numbers: &mut [i64], counts: &mut [u64; 256]) {
     if line.len() == 0 {
         return;
     }
@@ -54,7 +54,7 @@ fn one_line(line: &[u8], number: u64, numbers: &mut [i64], counts: &mut [u64; 12
     }
     let head = lines::read_first(line);
     let kind = head.value as usize;
-    if 31 < kind {
+    if 63 < kind {
         tally::add(counts, 0, Verdict::Skipped, number);
         return;
     }
@@ -67,7 +67,7 @@ fn one_line(line: &[u8], number: u64, numbers: &mut [i64], counts: &mut [u64; 12
 }
 
 // All lines; false where one is longer than the buffer.
-pub fn each_line(buf: &mut [u8], numbers: &mut [i64], counts: &mut [u64; 128]) -> bool {
+pub fn each_line(buf: &mut [u8], numbers: &mut [i64], counts: &mut [u64; 256]) -> bool {
     let mut from = 0;
     let mut end = 0;
     let mut number: u64 = 0;

@@ -32,6 +32,12 @@ pub fn verdict(kind: usize, line: &[u8], at: usize, numbers: &mut [i64]) -> Verd
             line,
             replay_blocks::reconstruct_block_report(line, at, numbers),
         ),
+        32 => reached(line, replay_rows::row_summary(line, at, numbers)),
+        33 => reached(line, replay_rows::replace_token(line, at, numbers)),
+        34 => reached(
+            line,
+            replay_rows::inverse_transform_2d_rows(line, at, numbers),
+        ),
         _ => Verdict::Skipped,
     }
 }

@@ -1,4 +1,4 @@
-// Four counts for each kind below 32: lines that are the same, that differ, that were skipped, and the first that differs.
+// Four counts for each kind below 64: lines that are the same, that differ, that were skipped, and the first that differs.
 use crate::verdict::Verdict;
 use libc::STDOUT_FILENO;
 ghost use Prim.Native.Nat.{_<_};
@@ -12,12 +12,12 @@ const SKIPPED: usize = 2;
 const FIRST: usize = 3;
 
 // No line yet.
-pub fn none() -> [u64; 128] {
-    [0; 128]
+pub fn none() -> [u64; 256] {
+    [0; 256]
 }
 
-fn more(counts: &mut [u64; 128], i: usize)
-    requires { ⌜ i < 128 ⌝ }
+fn more(counts: &mut [u64; 256], i: usize)
+    requires { ⌜ i < 256 ⌝ }
 {
     let n = counts[i];
     if n < 18446744073709551615 {
@@ -26,8 +26,8 @@ fn more(counts: &mut [u64; 128], i: usize)
 }
 
 // Counts line `number`, of this kind.
-pub fn add(counts: &mut [u64; 128], kind: usize, v: Verdict, number: u64)
-    requires { ⌜ kind < 32 ⌝ }
+pub fn add(counts: &mut [u64; 256], kind: usize, v: Verdict, number: u64)
+    requires { ⌜ kind < 64 ⌝ }
 {
     match v {
         Verdict::Same => more(counts, kind * 4 + SAME),
@@ -58,8 +58,8 @@ fn print_kind(kind: usize, same: u64, differ: u64, skipped: u64, first: u64) {
 }
 
 // A line for each kind that was met.
-pub fn print(counts: &[u64; 128]) {
-    for kind in 0..32usize {
+pub fn print(counts: &[u64; 256]) {
+    for kind in 0..64usize {
         let same = counts[kind * 4 + SAME];
         let differ = counts[kind * 4 + DIFFER];
         let skipped = counts[kind * 4 + SKIPPED];

@@ -15,7 +15,7 @@ use Rattle.whole.proofs.Lists.{tabulate-is}
 use Rattle.whole.proofs.Tests.{any-at}
 use Rattle.answers.specs.Limits.{codeable}
 use Rattle.answers.specs.Sizes.{side}
-use Rattle.blocks.specs.Inner.{live}
+use Rattle.blocks.specs.Block.{live}
 use Rattle.report.specs.Classes.{CLASSES, shares, one, itself}
 use Rattle.report.specs.Report.{noted}
 use Rattle.report.specs.Inner.{IsClass, Listed, Noted, Room, Taken}

@@ -3,7 +3,7 @@ use mathlib.Core.Path.{_≡_, _∙_}
 use Prim.Native.Nat.{_≤_, _-_}
 use native.Mathlib.Omega.{arith}
 use borrow.Author.Needs.{needs}
-use Rattle.blocks.specs.Inner.{live}
+use Rattle.blocks.specs.Block.{live}
 use Rattle.blocks.proofs.Live.{live-none, live-next, live-hit}
 use Rattle.blocks.proofs.any_live.Statement.{statement}
 use Rattle.blocks.proofs.any_live.Tie as tie

@@ -7,7 +7,7 @@ use lib.IntN.{pos}
 use lib.ListN.{getD}
 use mir.Syntax.{w64}
 use mir.Facts.{toZ-ofZ}
-use Rattle.blocks.specs.Inner.{live}
+use Rattle.blocks.specs.Block.{live}
 use Rattle.blocks.proofs.Live.{counted, or-live-none, or-live-more}
 use Rattle.blocks.proofs.or_live.Statement.{statement}
 use Rattle.blocks.proofs.or_live.Tie as tie

@@ -35,12 +35,9 @@ returns-3 c =
 
 returns-4 : tie.Need-returns-4
 returns-4 c =
-    let w = c .before .before .before in
-    let t = w .before .before in
-    let e = t .before .before in
+    let e = c .before .before .before .before in
     let u = given (e .before .before .before .before) in
-    driven-left u (w .if3 .left) (as-lossy (u .block) (u .n) (u .tx-type) (u .lossless) (passed e) (e .before .before .before .if1 .left) (t .try-larger .ensures))
-    (c .before .inverse-transform-2d-reference .ensures)
+    driven-left u (passed e) (c .if3 .left) (as-lossy (u .block) (u .n) (u .tx-type) (u .lossless) (passed e) (e .before .before .before .if1 .left) (c .before .before .try-larger .ensures))
 
 pub inverse-transform-2d-spec : {M : Type 1} → statement M
 inverse-transform-2d-spec =
@@ -55,6 +52,5 @@ inverse-transform-2d-spec =
     try-larger-requires
     (λ c. search needs)
     returns-3
-    (λ c κs. search needs)
     (λ c. search needs)
     returns-4)

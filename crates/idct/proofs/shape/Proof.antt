@@ -4,10 +4,9 @@ use Prim.Native.Nat.{_-_}
 use native.Mathlib.Nat.{mul-le-mul}
 use native.Mathlib.Omega.{arith}
 use borrow.Author.Tests.{lt-ltb, le-ltb}
-use Rattle.answers.specs.Bad.{badLossless, badTxType}
-use Rattle.idct.specs.Driver.{badSide}
+use Rattle.answers.specs.Bad.{badSide, badLossless, badTxType}
+use Rattle.answers.proofs.Passed.{side-range}
 use Rattle.idct.specs.Inner.{shapeOf}
-use Rattle.idct.proofs.Answers.{side-range}
 use borrow.Author.Needs.{needs}
 use Rattle.idct.proofs.shape.Statement.{statement}
 use Rattle.idct.proofs.shape.Tie as tie

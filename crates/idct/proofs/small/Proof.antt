@@ -28,20 +28,10 @@ returns-2 c = let e = c .before .before .before .before in driven-made (given (e
 
 returns-3 : tie.Need-returns-3
 returns-3 c =
-    let w = c .before .before .before in
-    let t = w .before .before in
-    driven-left (given (t .before .before .before .before .before)) (w .if2 .left) (t .try-4 .ensures) (c .before .inverse-transform-2d-reference .ensures)
+    let e = c .before .before .before .before in
+    driven-left (given (e .before .before .before)) (passed e) (c .if2 .left) (c .before .before .try-4 .ensures)
 
 pub small-spec : {M : Type 1} → statement M
 small-spec =
     tie.close
-    (tie.spec
-    (λ c κs. search needs)
-    (λ c κs. search needs)
-    returns
-    try-4-requires
-    (λ c. search needs)
-    returns-2
-    (λ c κs. search needs)
-    (λ c. search needs)
-    returns-3)
+    (tie.spec (λ c κs. search needs) (λ c κs. search needs) returns try-4-requires (λ c. search needs) returns-2 (λ c. search needs) returns-3)

@@ -3,7 +3,7 @@ use mathlib.Core.Path.{_≡_, ap, _∙_}
 use mathlib.Core.Bool.{not}
 use borrow.Author.Needs.{needs}
 use borrow.Author.Tests.{eq-eqb, ne-eqb}
-use Rattle.blocks.specs.Inner.{onlyDc}
+use Rattle.blocks.specs.Block.{onlyDc}
 use Rattle.reconstruct.proofs.only_dc.Statement.{statement}
 use Rattle.reconstruct.proofs.only_dc.Tie as tie
 

@@ -8,7 +8,7 @@ use native.Mathlib.Omega.{arith}
 use lib.IntN.{ℤ, pos}
 use lib.ListN.{length, getD}
 use borrow.Author.Needs.{needs}
-use Rattle.blocks.specs.Inner.{live}
+use Rattle.blocks.specs.Block.{live}
 use Rattle.blocks.proofs.Live.{dead-at}
 use Rattle.reconstruct.specs.Inner.{Accepted}
 use Rattle.reconstruct.proofs.Residual.{inFront, filled, filled-fine, filled-dead, made, as-lossless, as-lossy, only-dc-is}

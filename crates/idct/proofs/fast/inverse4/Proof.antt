@@ -3,7 +3,7 @@ use mathlib.Core.Bool.{false}
 use native.Mathlib.Omega.{arith}
 use borrow.Author.Needs.{needs}
 use borrow.Author.Tests.{not-true}
-use Rattle.blocks.specs.Inner.{live}
+use Rattle.blocks.specs.Block.{live}
 use Rattle.idct.proofs.Answers.{dc-written}
 use Rattle.idct.proofs.fast.inverse4.Statement.{statement}
 use Rattle.idct.proofs.fast.inverse4.Tie as tie

@@ -2,7 +2,7 @@ use native.Mathlib.Omega.{arith}
 use mathlib.Core.Path.{ap}
 use mathlib.Core.Bool.{not}
 use borrow.Author.Tests.{ne-eqb}
-use Rattle.blocks.specs.Inner.{onlyDc}
+use Rattle.blocks.specs.Block.{onlyDc}
 use borrow.Author.Needs.{needs}
 use Rattle.idct.proofs.fast.only_dc.Statement.{statement}
 use Rattle.idct.proofs.fast.only_dc.Tie as tie

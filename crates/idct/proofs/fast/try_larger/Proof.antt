@@ -1,10 +1,10 @@
 use mathlib.Core.Path.{_≡_, sym, _∙_}
-use mathlib.Core.Bool.{false}
+use mathlib.Core.Bool.{true, false, not}
 use Prim.Native.Nat.{_*_}
 use native.Mathlib.Nat.{mul-le-mul}
 use native.Mathlib.Omega.{arith}
 use borrow.Author.Needs.{needs}
-use borrow.Author.Tests.{not-false}
+use borrow.Author.Tests.{not-true, not-false}
 use mir.Syntax.{w64}
 use mir.Val.{Fits}
 use mir.Facts.{toZ-ofZ}
@@ -60,11 +60,18 @@ returns-2 c =
     made (given s) _ (first (e .before) ∙ e .if2 .left)
     (dc-written (s .args .n) (s .args .block .now) (s .pre .1 .least) (s .pre .1 .most) (s .pre .2) (only w .dead) (only w .zero-kind) (rw (b .side .ensures .0) at (c .before .dc-fill .ensures)))
 
-surely-within-requires : tie.Need-surely-within-requires
-surely-within-requires c κs = let b = c .before .before .before .before in rw (b .side .ensures .0) (b .before .pre .2)
+within-requires : tie.Need-within-requires
+within-requires c κs = let b = c .before .before .before .before in rw (b .side .ensures .0) (b .before .pre .2)
+
+-- the exact test of the limit
+tested : (c : tie.After-within) → let s = c .before .before .before .before .before .before in c .within .result ≡ not (anyBeyond COEF_LIMIT (area (s .args .n)) (s .args .block .now))
+tested c = let b = c .before .before .before .before .before in rw (b .side .ensures .0) at (c .within .ensures)
+
+beyond : (c : tie.Then3) → let s = c .before .before .before .before .before .before .before in anyBeyond COEF_LIMIT (area (s .args .n)) (s .args .block .now) ≡ true
+beyond c = not-false _ (sym (tested (c .before)) ∙ not-true _ (c .if3 .taken))
 
 within : (c : tie.Else3) → let s = c .before .before .before .before .before .before .before in anyBeyond COEF_LIMIT (area (s .args .n)) (s .args .block .now) ≡ false
-within c = let b = c .before .before .before .before .before .before in rw (b .side .ensures .0) at (c .before .surely-within .ensures (not-false _ (c .if3 .left)))
+within c = not-true _ (sym (tested (c .before)) ∙ not-false _ (c .if3 .left))
 
 both-passes-requires : tie.Need-both-passes-requires
 both-passes-requires c κs =
@@ -85,15 +92,15 @@ try-larger-spec =
     slice-copy-out-is-beyond
     (λ c κs. search needs)
     (λ c. search needs)
-    (λ c. left (given (c .before .before .before .before .before .before .before)))
+    (λ c. left (given (c .before .before .before .before .before .before .before)) (first (c .before) ∙ c .if2 .taken))
     (λ c. all-fits (c .before .before .before .before .before .before .before))
     dc-fill-requires
     (λ c. search needs)
     returns-2
     (λ c. all-fits (c .before .before .before .before))
-    surely-within-requires
+    within-requires
     (λ c. search needs)
-    (λ c. left (given (c .before .before .before .before .before .before .before)))
+    (λ c. left (given (c .before .before .before .before .before .before .before)) (beyond c))
     both-passes-requires
     (λ c. search needs)
     returns-4)

@@ -1,7 +1,7 @@
-use mathlib.Core.Path.{_≡_}
-use mathlib.Core.Bool.{false}
+use mathlib.Core.Path.{_≡_, sym, _∙_}
+use mathlib.Core.Bool.{true, false}
 use borrow.Author.Needs.{needs}
-use borrow.Author.Tests.{not-false}
+use borrow.Author.Tests.{not-true, not-false}
 use Rattle.answers.specs.Bad.{anyBeyond}
 use Rattle.answers.specs.Limits.{COEF_LIMIT}
 use Rattle.idct.specs.Driver.{Input}
@@ -13,8 +13,11 @@ use Rattle.idct.proofs.fast.try_lossy4.Tie as tie
 abbrev given : tie.Start → Input
 given s = record { block = s .args .block .now; n = 2; tx-type = s .args .tx-type; lossless = false }
 
+beyond : (c : tie.Then1) → anyBeyond COEF_LIMIT 16 (c .before .before .before .args .block .now) ≡ true
+beyond c = not-false _ (sym (c .before .within .ensures) ∙ not-true _ (c .if1 .taken))
+
 within : (c : tie.Else1) → anyBeyond COEF_LIMIT 16 (c .before .before .before .args .block .now) ≡ false
-within c = c .before .surely-within .ensures (not-false _ (c .if1 .left))
+within c = not-true _ (sym (c .before .within .ensures) ∙ not-false _ (c .if1 .left))
 
 inverse4-requires : tie.Need-inverse4-requires
 inverse4-requires c κs = let s = c .before .before .before .before in (s .pre, in-range 16 (s .args .block .now) (within (c .before)))
@@ -25,4 +28,4 @@ returns-2 c = let e = c .before .before .before in made (given (e .before .befor
 pub try-lossy4-spec : {M : Type 1} → statement M
 try-lossy4-spec =
     tie.close
-    (tie.spec (λ c κs. search needs) (λ c. search needs) (λ c. left (given (c .before .before .before))) inverse4-requires (λ c. search needs) returns-2)
+    (tie.spec (λ c κs. search needs) (λ c. search needs) (λ c. left (given (c .before .before .before)) (beyond c)) inverse4-requires (λ c. search needs) returns-2)

@@ -4,10 +4,10 @@ use Rattle.replay.proofs.tally.print.Statement.{statement}
 use Rattle.replay.proofs.tally.print.Tie as tie
 
 abbrev Inv-loop : tie.InvT-loop
-Inv-loop counts kind₀ kind = kind ≤ 32
+Inv-loop counts kind₀ kind = kind ≤ 64
 
 abbrev μ-loop : tie.MeasureT-loop
-μ-loop counts kind₀ kind = 32 - kind
+μ-loop counts kind₀ kind = 64 - kind
 
 pub print-spec : {M : Type 1} → statement M
 print-spec =

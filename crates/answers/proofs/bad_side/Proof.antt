@@ -1,7 +1,7 @@
 use borrow.Author.Tests.{lt-ltb, le-ltb}
-use Rattle.idct.specs.Driver.{badSide}
-use Rattle.idct.proofs.bad_side.Statement.{statement}
-use Rattle.idct.proofs.bad_side.Tie as tie
+use Rattle.answers.specs.Bad.{badSide}
+use Rattle.answers.proofs.bad_side.Statement.{statement}
+use Rattle.answers.proofs.bad_side.Tie as tie
 
 returns : tie.Need-returns
 unfolding badSide

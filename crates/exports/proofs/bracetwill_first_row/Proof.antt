@@ -1,0 +1,20 @@
+use mathlib.Core.Path.{_≡_, sym, ap, subst, _∙_}
+use Prim.Native.Nat.{_≤_}
+use mir.Syntax.{w32}
+use mir.ValLaws.{toZ-ofZ}
+use borrow.Author.Needs.{needs}
+use Rattle.summary.specs.declared.Row.{Row}
+use Rattle.exports.specs.Rows.{rowNumber}
+use Rattle.exports.specs.Inner.{placeOf}
+use Rattle.exports.proofs.Rows.{first-below}
+use Rattle.exports.proofs.bracetwill_first_row.Statement.{statement}
+use Rattle.exports.proofs.bracetwill_first_row.Tie as tie
+
+row-number-requires : tie.Need-row-number-requires
+row-number-requires c κs = subst (λ (x : Row). placeOf x ≤ 31) (sym (c .first-row .ensures)) (first-below (c .before .args .summary))
+
+returns : tie.Need-returns
+returns c = toZ-ofZ w32 _ (record { sfits = c .row-number .ok }) ∙ c .row-number .ensures ∙ ap rowNumber (c .before .first-row .ensures)
+
+pub bracetwill-first-row-spec : {M : Type 1} → statement M
+bracetwill-first-row-spec = tie.close (tie.spec (λ c κs. search needs) row-number-requires returns)

@@ -1,0 +1,5 @@
+pub mod Digits
+pub mod Places
+pub mod Rows
+pub mod Bit
+pub mod Replace
