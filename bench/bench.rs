@@ -37,7 +37,7 @@ mod ours {
         depth: u32,
     ) -> u32 {
         let (p, count) = (samples.as_mut_ptr(), samples.len());
-        unsafe { c::bracetwill_reconstruct_block(p, count, size.0, size.1, at.0, at.1, tx_sz, tokens.as_ptr(), tokens.len(), quants.0, quants.1, tx_type, lossless, depth) }
+        unsafe { c::bracetwill_reconstruct_block(p, count, size.0, size.1, size.0, at.0, at.1, tx_sz, tokens.as_ptr(), tokens.len(), quants.0, quants.1, tx_type, lossless, depth) }
     }
     #[allow(clippy::too_many_arguments)]
     pub fn reconstruct_block_report(
@@ -55,7 +55,7 @@ mod ours {
         let (p, count) = (samples.as_mut_ptr(), samples.len());
         unsafe {
             c::bracetwill_reconstruct_block_report(
-                p, count, size.0, size.1, at.0, at.1, tx_sz, tokens.as_ptr(), tokens.len(), quants.0, quants.1, tx_type, lossless, depth, &mut report.0, &mut report.1,
+                p, count, size.0, size.1, size.0, at.0, at.1, tx_sz, tokens.as_ptr(), tokens.len(), quants.0, quants.1, tx_type, lossless, depth, &mut report.0, &mut report.1,
             )
         }
     }

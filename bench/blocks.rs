@@ -163,7 +163,7 @@ impl Rng {
 
 fn ours(samples: &mut [u16], (w, h): (usize, usize), (x, y): (usize, usize), b: &Block, tokens: &[i64]) -> u32 {
     let (p, count) = (samples.as_mut_ptr(), samples.len());
-    unsafe { c::bracetwill_reconstruct_block(p, count, w, h, x, y, b.size, tokens.as_ptr(), tokens.len(), b.quant[0], b.quant[1], b.kind, b.lossless, b.depth) }
+    unsafe { c::bracetwill_reconstruct_block(p, count, w, h, w, x, y, b.size, tokens.as_ptr(), tokens.len(), b.quant[0], b.quant[1], b.kind, b.lossless, b.depth) }
 }
 
 fn rusts(plane: &mut intra::Plane, (x, y): (usize, usize), b: &Block, tokens: &[i64]) {

@@ -54,7 +54,7 @@ static void run_libvpx(struct kind k, inverse_add *plain, int b, uint16_t *dest)
 
 static uint32_t run_ours(struct kind k, int b, uint16_t *samples) {
   size_t side = (size_t)4 << k.size;
-  return bracetwill_reconstruct_block(samples, side * side, side, side, 0, 0, k.size, tokens[b], side * side, 4, 4, k.type, k.lossless, DEPTH);
+  return bracetwill_reconstruct_block(samples, side * side, side, side, side, 0, 0, k.size, tokens[b], side * side, 4, 4, k.type, k.lossless, DEPTH);
 }
 
 static double now(void) {

@@ -26,9 +26,9 @@
 
 /* made by bindings/write from VERSION */
 #define BRACETWILL_VERSION_MAJOR 0
-#define BRACETWILL_VERSION_MINOR 1
+#define BRACETWILL_VERSION_MINOR 2
 #define BRACETWILL_VERSION_PATCH 0
-#define BRACETWILL_VERSION_STRING "0.1.0"
+#define BRACETWILL_VERSION_STRING "0.2.0"
 /* end */
 
 /* An answer that is not looked at is a warning: a refused call has written nothing. */
@@ -80,7 +80,7 @@ static inline const char *bracetwill_answer_meaning(uint32_t answer) {
   case BRACETWILL_ANSWER_TX_TYPE: return "not lossless, and a tx_type above 3, or 32 by 32 with a tx_type other than 0";
   case BRACETWILL_ANSWER_QUANTIZER: return "a quantizer outside 1 to 32,767";
   case BRACETWILL_ANSWER_LENGTH: return "a list has the wrong length";
-  case BRACETWILL_ANSWER_PLANE: return "plane width or height above 65,535, or samples not exactly width times height";
+  case BRACETWILL_ANSWER_PLANE: return "plane width, height or stride above 65,535, stride below the width, or samples not exactly stride times height";
   case BRACETWILL_ANSWER_TOKEN: return "a token's magnitude above the depth's codeable limit (16,450, 65,602 and 262,210)";
   case BRACETWILL_ANSWER_COEFFICIENT: return "a coefficient beyond its limit (2^27; for the forward WHT 2^23)";
   case BRACETWILL_ANSWER_MARK: return "VBK: the mark is not there";
@@ -99,7 +99,7 @@ static inline const char *bracetwill_answer_meaning(uint32_t answer) {
 #define BRACETWILL_COEF_LIMIT INT64_C(134217728) /* dequantized values, the 2D driver's input, the quantizer's input */
 #define BRACETWILL_WHT_LIMIT INT64_C(8388608)    /* the forward WHT's input */
 #define BRACETWILL_QUANT_LIMIT 32767             /* a quantizer is 1 to this */
-#define BRACETWILL_SIDE_LIMIT 65535              /* a plane's width and height */
+#define BRACETWILL_SIDE_LIMIT 65535              /* a plane's width, height and stride */
 #define BRACETWILL_LIST_LIMIT 1024               /* numbers that the quantizer takes */
 #define BRACETWILL_FILE_LIMIT 65535              /* bytes of a VBK file */
 
@@ -160,11 +160,13 @@ BRACETWILL_NODISCARD
 uint32_t bracetwill_inverse_transform_2d_rows(int64_t *block, size_t block_len, uint32_t n, uint8_t tx_type, bool lossless, uint32_t *rows);
 
 /* A block's tokens are dequantized and transformed, and the residual is added to the samples at column x and row y and on, each clipped to
- * the depth, cut to the plane. Samples stand row by row, width * height of them. tx_sz is 0 to 3 for 4, 8, 16 and 32; tokens are n0 * n0.
+ * the depth, cut to the plane. Samples stand row by row, stride * height of them: that of row y and column x is number y * stride + x. What
+ * lies past the width in a row is padding: it is not looked at and stays; without padding the stride is the width. tx_sz is 0 to 3 for 4, 8,
+ * 16 and 32; tokens are n0 * n0.
  * dc_quant is for token 0, ac_quant for all others. x and y are any number: a block outside the plane is done, and writes nothing.
  * Answers 0 to 9. */
 BRACETWILL_NODISCARD
-uint32_t bracetwill_reconstruct_block(uint16_t *samples, size_t samples_len, size_t width, size_t height, size_t x, size_t y,
+uint32_t bracetwill_reconstruct_block(uint16_t *samples, size_t samples_len, size_t width, size_t height, size_t stride, size_t x, size_t y,
                                       uint32_t tx_sz, const int64_t *tokens, size_t tokens_len, int32_t dc_quant, int32_t ac_quant,
                                       uint8_t tx_type, bool lossless, uint32_t bit_depth);
 
@@ -178,8 +180,8 @@ uint32_t bracetwill_reconstruct_block(uint16_t *samples, size_t samples_len, siz
  * BRACETWILL_ENTRIES numbers, zeros at first. Answers 0 to 9, and after them 15, of the report as it was lent: its counts and the block's
  * tokens are more than 4294967295 in all, or one of the 44 sums is above its count times 262210. */
 BRACETWILL_NODISCARD
-uint32_t bracetwill_reconstruct_block_report(uint16_t *samples, size_t samples_len, size_t width, size_t height, size_t x, size_t y,
-                                             uint32_t tx_sz, const int64_t *tokens, size_t tokens_len, int32_t dc_quant,
+uint32_t bracetwill_reconstruct_block_report(uint16_t *samples, size_t samples_len, size_t width, size_t height, size_t stride, size_t x,
+                                             size_t y, uint32_t tx_sz, const int64_t *tokens, size_t tokens_len, int32_t dc_quant,
                                              int32_t ac_quant, uint8_t tx_type, bool lossless, uint32_t bit_depth,
                                              uint32_t counts[44], uint64_t sums[44]);
 

@@ -20,7 +20,7 @@ int main(void) {
   if (refused("forward WHT", bracetwill_forward_wht_2d(block, 16))) return 1;
 
   /* lossless: the coefficients are tokens at quantizer 4, of which the inverse takes a quarter */
-  if (refused("reconstruction", bracetwill_reconstruct_block(plane, 8 * 4, 8, 4, 4, 0, 0, block, 16, 4, 4, BRACETWILL_DCT_DCT, true, 8)))
+  if (refused("reconstruction", bracetwill_reconstruct_block(plane, 8 * 4, 8, 4, 8, 4, 0, 0, block, 16, 4, 4, BRACETWILL_DCT_DCT, true, 8)))
     return 1;
   for (int y = 0; y < 4; y++) {
     for (int x = 0; x < 8; x++) printf("%4d", plane[y * 8 + x]);
@@ -30,7 +30,7 @@ int main(void) {
   /* the same again; then a line for each class that has tokens: size number, class, how many, and the sum of their magnitudes */
   uint32_t counts[BRACETWILL_ENTRIES] = {0};
   uint64_t sums[BRACETWILL_ENTRIES] = {0};
-  if (refused("report", bracetwill_reconstruct_block_report(plane, 8 * 4, 8, 4, 4, 0, 0, block, 16, 4, 4, BRACETWILL_DCT_DCT, true, 8, counts, sums)))
+  if (refused("report", bracetwill_reconstruct_block_report(plane, 8 * 4, 8, 4, 8, 4, 0, 0, block, 16, 4, 4, BRACETWILL_DCT_DCT, true, 8, counts, sums)))
     return 1;
   for (int class = 0; class < BRACETWILL_CLASSES; class++)
     if (counts[class] != 0) printf("C 0 %d %u %u\n", class, (unsigned)counts[class], (unsigned)sums[class]);
@@ -47,5 +47,5 @@ int main(void) {
   printf("row transforms %u\n", (unsigned)transforms);
 
   /* the block of above at a depth that there is not: the plane stays */
-  return !refused("reconstruction", bracetwill_reconstruct_block(plane, 8 * 4, 8, 4, 4, 0, 0, block, 16, 4, 4, BRACETWILL_DCT_DCT, true, 9));
+  return !refused("reconstruction", bracetwill_reconstruct_block(plane, 8 * 4, 8, 4, 8, 4, 0, 0, block, 16, 4, 4, BRACETWILL_DCT_DCT, true, 9));
 }

@@ -305,7 +305,7 @@ static void replace_refuses(void) {
 
 /* What reconstruction is handed. */
 struct call {
-  size_t samples_len, width, height, x, y;
+  size_t samples_len, width, height, stride, x, y;
   uint32_t tx_sz;
   size_t tokens_len;
   int32_t dc_quant, ac_quant;
@@ -318,7 +318,7 @@ enum { SAMPLES = 65536 + 64 };
 static uint16_t samples[SAMPLES], samples_before[SAMPLES];
 
 static uint32_t reconstruct(struct call c) {
-  return bracetwill_reconstruct_block(samples, c.samples_len, c.width, c.height, c.x, c.y, c.tx_sz, list, c.tokens_len, c.dc_quant,
+  return bracetwill_reconstruct_block(samples, c.samples_len, c.width, c.height, c.stride, c.x, c.y, c.tx_sz, list, c.tokens_len, c.dc_quant,
                                       c.ac_quant, c.tx_type, c.lossless, c.bit_depth);
 }
 
@@ -337,7 +337,7 @@ static void reconstruct_refused(struct call c, size_t place, int64_t token, uint
 
 /* 1 to 9, the lowest first: each call is made worse in the place of a lower number than those of the calls before it. */
 static void reconstruct_refuses(void) {
-  const struct call good = {48, 8, 6, 1, 1, 0, 16, 4, 4, 0, false, 8};
+  const struct call good = {48, 8, 6, 8, 1, 1, 0, 16, 4, 4, 0, false, 8};
   struct call c = good;
   c.ac_quant = 8160;
   reconstruct_refused(c, 15, 16450, BRACETWILL_ANSWER_COEFFICIENT, "reconstruction: coefficient");
@@ -370,22 +370,33 @@ static void reconstruct_refuses(void) {
   c.bit_depth = 9;
   reconstruct_refused(c, 15, 16451, BRACETWILL_ANSWER_DEPTH, "reconstruction: depth");
   c = good;
-  c.width = BRACETWILL_SIDE_LIMIT + 1;
+  c.width = c.stride = BRACETWILL_SIDE_LIMIT + 1;
   c.height = 1;
   c.samples_len = BRACETWILL_SIDE_LIMIT + 1;
   reconstruct_refused(c, 0, 0, BRACETWILL_ANSWER_PLANE, "reconstruction: width above its limit");
-  c.width = 1;
+  c.width = c.stride = 1;
   c.height = BRACETWILL_SIDE_LIMIT + 1;
   reconstruct_refused(c, 0, 0, BRACETWILL_ANSWER_PLANE, "reconstruction: height above its limit");
-  c.width = c.height = (size_t)1 << 63;
+  c.width = c.height = c.stride = (size_t)1 << 63;
   c.samples_len = 0;
-  reconstruct_refused(c, 0, 0, BRACETWILL_ANSWER_PLANE, "reconstruction: width times height wraps to 0");
-  equal(bracetwill_reconstruct_block(NULL, 0, 0, 0, 0, 0, 0, NULL, 0, 4, 4, 0, false, 8), BRACETWILL_ANSWER_LENGTH, "reconstruction: no lists");
+  reconstruct_refused(c, 0, 0, BRACETWILL_ANSWER_PLANE, "reconstruction: stride times height wraps to 0");
+  c = good;
+  c.stride = 7;
+  c.samples_len = 42;
+  reconstruct_refused(c, 0, 0, BRACETWILL_ANSWER_PLANE, "reconstruction: stride below the width");
+  c.stride = 9;
+  c.samples_len = 48;
+  reconstruct_refused(c, 0, 0, BRACETWILL_ANSWER_PLANE, "reconstruction: width times height samples, and padded lines");
+  c.stride = BRACETWILL_SIDE_LIMIT + 1;
+  c.height = 1;
+  c.samples_len = BRACETWILL_SIDE_LIMIT + 1;
+  reconstruct_refused(c, 0, 0, BRACETWILL_ANSWER_PLANE, "reconstruction: stride above its limit");
+  equal(bracetwill_reconstruct_block(NULL, 0, 0, 0, 0, 0, 0, 0, NULL, 0, 4, 4, 0, false, 8), BRACETWILL_ANSWER_LENGTH, "reconstruction: no lists");
 }
 
 /* What stands at each limit is taken. */
 static void reconstruct_takes(void) {
-  struct call c = {36, 6, 6, 0, 0, 0, 16, 1, 8159, 0, false, 8};
+  struct call c = {36, 6, 6, 6, 0, 0, 0, 16, 1, 8159, 0, false, 8};
   plane_of(100);
   zeros();
   list[15] = 16450;
@@ -398,7 +409,7 @@ static void reconstruct_takes(void) {
   equal(reconstruct(c), BRACETWILL_ANSWER_DONE, "reconstruction: 16318 at 32 by 32");
   c.ac_quant = 16319;
   equal(reconstruct(c), BRACETWILL_ANSWER_COEFFICIENT, "reconstruction: 16319 at 32 by 32");
-  const struct call widest = {65535, 65535, 1, 65533, 0, 0, 16, 4, 4, 0, true, 8};
+  const struct call widest = {65535, 65535, 1, 65535, 65533, 0, 0, 16, 4, 4, 0, true, 8};
   plane_of(100);
   zeros();
   list[0] = 5;
@@ -406,14 +417,29 @@ static void reconstruct_takes(void) {
   samples_before[65533] = 102;
   samples_before[65534] = 101;
   check(same(samples, samples_before, sizeof samples), "reconstruction: the widest plane's end", 0, 0);
-  const struct call none = {0, 0, 65535, 0, 0, 0, 16, 4, 4, 0, true, 8};
+  /* a plane of 3 by 2 in lines of 5, cut at its right edge: the padding stays */
+  const struct call padded = {10, 3, 2, 5, 2, 0, 0, 16, 4, 4, 0, true, 8};
+  plane_of(100);
+  equal(reconstruct(padded), BRACETWILL_ANSWER_DONE, "reconstruction: padded lines");
+  samples_before[2] = 102;
+  samples_before[7] = 101;
+  check(same(samples, samples_before, sizeof samples), "reconstruction: padded lines, every sample", 0, 0);
+  const struct call longest = {65535, 1, 1, 65535, 0, 0, 0, 16, 4, 4, 0, true, 8};
+  equal(reconstruct(longest), BRACETWILL_ANSWER_DONE, "reconstruction: the longest line");
+  const struct call padding = {10, 0, 2, 5, 0, 0, 0, 16, 4, 4, 0, true, 8};
+  plane_of(100);
+  equal(reconstruct(padding), BRACETWILL_ANSWER_DONE, "reconstruction: lines of padding alone");
+  check(same(samples, samples_before, sizeof samples), "reconstruction: lines of padding alone, every sample", 0, 0);
+  const struct call flat = {0, 5, 0, 65535, 0, 0, 0, 16, 4, 4, 0, true, 8};
+  equal(reconstruct(flat), BRACETWILL_ANSWER_DONE, "reconstruction: no line");
+  const struct call none = {0, 0, 65535, 0, 0, 0, 0, 16, 4, 4, 0, true, 8};
   equal(reconstruct(none), BRACETWILL_ANSWER_DONE, "reconstruction: no sample");
-  equal(bracetwill_reconstruct_block(NULL, 0, 0, 0, 7, 7, 0, list, 16, 4, 4, 0, true, 8), BRACETWILL_ANSWER_DONE, "reconstruction: no plane");
+  equal(bracetwill_reconstruct_block(NULL, 0, 0, 0, 0, 7, 7, 0, list, 16, 4, 4, 0, true, 8), BRACETWILL_ANSWER_DONE, "reconstruction: no plane");
 }
 
 /* A plane of 6 by 5: at (4, 3) two rows and two columns are written, at x = 6 none. */
 static void reconstruct_cut(void) {
-  struct call c = {30, 6, 5, 4, 3, 0, 16, 4, 4, 9, true, 8};
+  struct call c = {30, 6, 5, 6, 4, 3, 0, 16, 4, 4, 9, true, 8};
   plane_of(100);
   zeros();
   list[0] = 5;
@@ -434,7 +460,7 @@ static void reconstruct_clips(void) {
   const uint32_t depths[] = {8, 10, 12};
   const uint16_t tops[] = {255, 1023, 4095};
   for (size_t d = 0; d < 3; d++) {
-    struct call c = {16, 4, 4, 0, 0, 0, 16, 4, 4, 0, false, depths[d]};
+    struct call c = {16, 4, 4, 4, 0, 0, 0, 16, 4, 4, 0, false, depths[d]};
     plane_of(65535);
     zeros();
     equal(reconstruct(c), BRACETWILL_ANSWER_DONE, "clip: zero residual");
@@ -456,7 +482,7 @@ static struct report report, report_before;
 
 static uint32_t reported(struct call c) {
   copy(&report_before, &report, sizeof report);
-  return bracetwill_reconstruct_block_report(samples, c.samples_len, c.width, c.height, c.x, c.y, c.tx_sz, list, c.tokens_len, c.dc_quant,
+  return bracetwill_reconstruct_block_report(samples, c.samples_len, c.width, c.height, c.stride, c.x, c.y, c.tx_sz, list, c.tokens_len, c.dc_quant,
                                              c.ac_quant, c.tx_type, c.lossless, c.bit_depth, report.counts, report.sums);
 }
 
@@ -481,7 +507,7 @@ static void report_counts(void) {
     for (size_t class = 0; class < BRACETWILL_CLASSES; class++)
       for (int end = 0; end <= 1; end++) {
         const size_t count = (size_t)16 << (2 * size), at = size * BRACETWILL_CLASSES + class, none = size * BRACETWILL_CLASSES;
-        const struct call c = {16, 4, 4, end ? 4 : 1, 0, size, count, 1, 1, 0, false, 12};
+        const struct call c = {16, 4, 4, 4, end ? 4 : 1, 0, size, count, 1, 1, 0, false, 12};
         const int64_t token = end ? least[class + 1] - 1 : least[class];
         plane_of(100);
         zeros();
@@ -498,7 +524,7 @@ static void report_counts(void) {
 
 /* 15, after every number of reconstruction: the total with the block's tokens, and each sum. */
 static void report_refuses(void) {
-  const struct call good = {48, 8, 6, 1, 1, 0, 16, 4, 4, 0, false, 8};
+  const struct call good = {48, 8, 6, 8, 1, 1, 0, 16, 4, 4, 0, false, 8};
   struct call c = good;
   filled(0, 0);
   for (size_t k = 0; k < BRACETWILL_ENTRIES; k++) {
@@ -533,7 +559,7 @@ static void report_refuses(void) {
 /* At 32 by 32 the product is halved toward zero: token 801 at 7 is 2803 and -801 is -2803, as the driver shows. */
 static void reconstruct_halves(void) {
   for (int sign = -1; sign <= 1; sign += 2) {
-    const struct call c = {1024, 32, 32, 0, 0, 3, 1024, 7, 1, 0, false, 8};
+    const struct call c = {1024, 32, 32, 32, 0, 0, 3, 1024, 7, 1, 0, false, 8};
     plane_of(100);
     zeros();
     list[0] = 801 * sign;

@@ -30,6 +30,24 @@ pub fn stops_in_debug(c: &Call) -> bool {
     angle < i128::from(i32::MIN) + 32
 }
 
+/// The Rust's plane has no stride: each line is copied out of the samples, and back without its padding.
+pub fn reconstruct_block(c: &rules::Recon, samples: &mut [u16]) {
+    let (width, height, stride) = (c.width as usize, c.height as usize, c.stride as usize);
+    let mut plane = intra::Plane::new(width, height);
+    for y in 0..height {
+        for x in 0..width {
+            plane.samples_mut()[y * width + x] = samples[y * stride + x];
+        }
+    }
+    let (x, y) = (c.x as usize, c.y as usize);
+    reconstruct::reconstruct_block(&mut plane, x, y, c.size, c.tokens, c.dc, c.ac, c.tx_type, c.lossless, c.depth);
+    for y in 0..height {
+        for x in 0..width {
+            samples[y * stride + x] = plane.samples()[y * width + x];
+        }
+    }
+}
+
 pub fn ask(c: &Call) -> Outcome {
     let a = |i: usize| c.args[i];
     match c.kind {
@@ -102,6 +120,7 @@ pub fn ask(c: &Call) -> Outcome {
                 ac: a(7) as i32,
                 width: a(8) as u64,
                 height: a(9) as u64,
+                stride: a(10) as u64,
                 tokens: &c.lists[0],
                 samples: c.lists[1].len(),
             };
@@ -112,14 +131,10 @@ pub fn ask(c: &Call) -> Outcome {
             if answer != 0 {
                 return Outcome { nums: vec![answer.into()], lists: c.lists[1..].to_vec() };
             }
-            let mut plane = intra::Plane::new(r.width as usize, r.height as usize);
-            for (s, v) in plane.samples_mut().iter_mut().zip(&c.lists[1]) {
-                *s = *v as u16;
-            }
-            let (x, y) = (r.x as usize, r.y as usize);
-            reconstruct::reconstruct_block(&mut plane, x, y, r.size, r.tokens, r.dc, r.ac, r.tx_type, r.lossless, r.depth);
+            let mut samples: Vec<u16> = c.lists[1].iter().map(|v| *v as u16).collect();
+            reconstruct_block(&r, &mut samples);
             let mut lists = c.lists[1..].to_vec();
-            lists[0] = numbers(plane.samples().iter().copied());
+            lists[0] = numbers(samples);
             if c.kind == 31 {
                 let (counts, sums) = lists[1..].split_at_mut(1);
                 rules::count(r.size, r.tokens, &mut counts[0], &mut sums[0]);

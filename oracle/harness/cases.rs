@@ -339,6 +339,7 @@ pub struct Recon {
     pub ac: i32,
     pub width: u64,
     pub height: u64,
+    pub stride: u64,
     pub tokens: Vec<i64>,
     pub samples: Vec<i64>,
 }
@@ -356,6 +357,7 @@ impl Recon {
             self.ac.into(),
             self.width.into(),
             self.height.into(),
+            self.stride.into(),
         ];
         call(22, args, vec![self.tokens, self.samples])
     }
@@ -387,6 +389,18 @@ pub fn samples(r: &mut Rng, count: usize, depth: u32) -> Vec<i64> {
         3 => (0..count).map(|_| r.pick(&[0, top, top + 1, 65_535])).collect(),
         _ => (0..count).map(|_| r.range(0, top)).collect(),
     }
+}
+
+/// So much padding behind each line, with any number in it.
+fn pad(r: &mut Rng, c: &mut Recon, pad: u64) {
+    let lines: Vec<Vec<i64>> = (0..c.height)
+        .map(|y| {
+            let at = (y * c.width) as usize;
+            let padding = (0..pad).map(|_| r.range(0, 65_535));
+            c.samples[at..at + c.width as usize].iter().copied().chain(padding).collect()
+        })
+        .collect();
+    (c.stride, c.samples) = (c.width + pad, lines.concat());
 }
 
 /// Where a block of n0 stands against a side of the plane: inside, cut, at the edge, far outside.
@@ -430,7 +444,12 @@ pub fn good_recon(r: &mut Rng) -> Recon {
     }
     let tokens = fill(r, side(n), &|k| token_bound(size, depth, if k == 0 { dc } else { ac }));
     let samples = samples(r, (width * height) as usize, depth);
-    Recon { x, y, size, tx_type, lossless, depth, dc, ac, width, height, tokens, samples }
+    let mut c = Recon { x, y, size, tx_type, lossless, depth, dc, ac, width, height, stride: width, tokens, samples };
+    if r.once_in(2) {
+        let padding = if r.once_in(8) { r.below(40) } else { 1 + r.below(8) };
+        pad(r, &mut c, padding);
+    }
+    c
 }
 
 fn recon(r: &mut Rng) -> Call {
@@ -583,15 +602,23 @@ fn refused_recon(r: &mut Rng, wanted: &[u8]) -> Call {
         c.tokens.resize(len, 0);
     }
     if has(7) {
-        match r.below(6) {
+        match r.below(10) {
             0 if !c.samples.is_empty() => {
                 c.samples.pop();
             }
             1 => c.samples.push(7),
-            2 => (c.width, c.height, c.samples) = (65_536, 0, vec![]),
-            3 => (c.width, c.height, c.samples) = (0, 65_536, vec![]),
-            4 => (c.width, c.height) = (1 << 32, 1 << 32), // the product is 0 in 64 bits
-            _ => (c.width, c.height, c.samples) = (u64::MAX, 1, vec![5; 3]),
+            2 => (c.width, c.height, c.stride, c.samples) = (65_536, 0, r.pick(&[0, 65_535, 65_536]), vec![]),
+            3 => (c.width, c.height, c.stride, c.samples) = (0, 65_536, 0, vec![]),
+            4 => (c.width, c.height, c.stride) = (1 << 32, 1 << 32, 1 << 32), // the product is 0 in 64 bits
+            5 if c.width > 0 => {
+                // a stride below the width, and the samples that it asks for
+                c.stride = r.below(c.width);
+                c.samples = vec![9; (c.stride * c.height) as usize];
+            }
+            6 => (c.height, c.stride, c.samples) = (0, r.pick(&[65_536, 1 << 16 | 7, u64::MAX]), vec![]),
+            7 => (c.height, c.stride, c.samples) = (2, 1 << 63, vec![]), // the product is 0 in 64 bits
+            8 if c.stride > c.width && c.height > 0 => c.samples.truncate((c.width * c.height) as usize),
+            _ => (c.width, c.height, c.stride, c.samples) = (u64::MAX, 1, r.pick(&[3, u64::MAX]), vec![5; 3]),
         }
     }
     if has(2) {
@@ -856,7 +883,7 @@ pub fn example() -> Recon {
     let mut tokens = vec![0; 16];
     tokens[0] = 5;
     let samples = vec![100; 16];
-    Recon { x: 0, y: 0, size: 0, tx_type: 0, lossless: true, depth: 8, dc: 4, ac: 4, width: 4, height: 4, tokens, samples }
+    Recon { x: 0, y: 0, size: 0, tx_type: 0, lossless: true, depth: 8, dc: 4, ac: 4, width: 4, height: 4, stride: 4, tokens, samples }
 }
 
 // ---- the systematic part ----
@@ -1014,8 +1041,12 @@ fn systematic_recon(r: &mut Rng, out: &mut dyn FnMut(Call)) {
         let count = side(n) * side(n);
         for depth in DEPTHS {
             let mut put = |r: &mut Rng, w: u64, h: u64, x: u64, y: u64, dc: i32, ac: i32, tokens: Vec<i64>| {
-                let samples = samples(r, (w * h) as usize, depth);
-                out(Recon { x, y, size, tx_type, lossless, depth, dc, ac, width: w, height: h, tokens, samples }.call());
+                for padding in [0, 1 + r.below(7)] {
+                    let (tokens, samples) = (tokens.clone(), samples(r, (w * h) as usize, depth));
+                    let mut c = Recon { x, y, size, tx_type, lossless, depth, dc, ac, width: w, height: h, stride: w, tokens, samples };
+                    pad(r, &mut c, padding);
+                    out(c.call());
+                }
             };
             // the plane cuts the block by each number of columns and rows (at large sizes by some)
             let step = (n0 as usize / 8).max(1);
@@ -1059,13 +1090,27 @@ fn systematic_recon(r: &mut Rng, out: &mut dyn FnMut(Call)) {
             let b = bound(r, token_bound(size, depth, if k == 0 { dc } else { ac }));
             tokens[k] = nonzero(r, b);
             let samples = samples(r, count, depth);
-            out(Recon { x: 0, y: 0, size, tx_type, lossless, depth, dc, ac, width: n0, height: n0, tokens, samples }.call());
+            out(Recon { x: 0, y: 0, size, tx_type, lossless, depth, dc, ac, width: n0, height: n0, stride: n0, tokens, samples }.call());
         }
     });
-    // the widest plane, and one wider
-    for (w, h) in [(65_535, 1), (1, 65_535), (65_536, 1), (1, 65_536)] {
-        let (x, y) = (w - 1, h - 1);
-        let samples = vec![50; (w * h) as usize];
+    // the widest plane and the longest line, and one more; a stride below the width; a line of padding alone; no line at all
+    let planes = [
+        (65_535, 1, 65_535),
+        (1, 65_535, 1),
+        (65_536, 1, 65_536),
+        (1, 65_536, 1),
+        (2, 1, 65_535),
+        (2, 1, 65_536),
+        (5, 3, 4),
+        (5, 3, 5),
+        (0, 5, 7),
+        (5, 0, 65_535),
+        (5, 0, 65_536),
+        (0, 0, 65_535),
+    ];
+    for (w, h, stride) in planes {
+        let (x, y) = (u64::max(w, 1) - 1, u64::max(h, 1) - 1);
+        let samples = vec![50; (stride * h) as usize];
         out(Recon {
             x,
             y,
@@ -1077,6 +1122,7 @@ fn systematic_recon(r: &mut Rng, out: &mut dyn FnMut(Call)) {
             ac: 9,
             width: w,
             height: h,
+            stride,
             tokens: vec![4; 16],
             samples,
         }
@@ -1334,7 +1380,7 @@ pub fn worked(out: &mut dyn FnMut(Call)) {
         let mut tokens = vec![0; rules::area(size)];
         tokens[k] = token;
         let samples = vec![100; 16];
-        Recon { x: 0, y: 0, size, tx_type: 0, lossless: false, depth: 8, dc, ac, width: 4, height: 4, tokens, samples }
+        Recon { x: 0, y: 0, size, tx_type: 0, lossless: false, depth: 8, dc, ac, width: 4, height: 4, stride: 4, tokens, samples }
     };
     for t in [5, -5] {
         out(one(3, 0, t, 7, 1).call());
@@ -1346,7 +1392,10 @@ pub fn worked(out: &mut dyn FnMut(Call)) {
     }
     for x in [4, 6] {
         let mut c = one(0, 0, 40, 16, 16);
-        (c.x, c.y, c.width, c.height, c.samples) = (x, 3, 6, 5, (100..130).collect());
+        (c.x, c.y, c.width, c.height, c.stride, c.samples) = (x, 3, 6, 5, 6, (100..130).collect());
+        out(c.call());
+        let mut c = one(0, 0, 40, 16, 16);
+        (c.x, c.y, c.width, c.height, c.stride, c.samples) = (x, 3, 6, 5, 8, (100..140).collect());
         out(c.call());
     }
     for (kind, q, list) in [(24, 4, vec![2, 3, 6, 7]), (25, 4, vec![2, 3, 6, 7])] {

@@ -275,36 +275,44 @@ fn simpler(c: &Call) -> Vec<Call> {
             }
         }
     }
-    if (c.kind == 22 || c.kind == 31) && c.args[8] * c.args[9] == c.lists[1].len() as i128 {
-        // a smaller plane: one column or one row less, or the place moved with it
-        let (w, h) = (c.args[8] as usize, c.args[9] as usize);
+    if (c.kind == 22 || c.kind == 31) && c.args[8] <= c.args[10] && c.args[10] * c.args[9] == c.lists[1].len() as i128 {
+        // a smaller plane: less padding, one column or one row less, or the place moved with it
+        let (w, h, s) = (c.args[8] as usize, c.args[9] as usize, c.args[10] as usize);
+        if s > w {
+            for pad in [0, s - w - 1] {
+                with(&|d| {
+                    d.args[10] = (w + pad) as i128;
+                    d.lists[1] = c.lists[1].chunks(s).flat_map(|row| row[..w + pad].to_vec()).collect();
+                });
+            }
+        }
         if w > 0 {
             with(&|d| {
-                d.args[8] -= 1;
-                d.lists[1] = c.lists[1].chunks(w).flat_map(|row| row[..w - 1].to_vec()).collect();
+                (d.args[8], d.args[10]) = (d.args[8] - 1, d.args[10] - 1);
+                d.lists[1] = c.lists[1].chunks(s).flat_map(|row| [&row[..w - 1], &row[w..]].concat()).collect();
             });
             with(&|d| {
-                d.args[8] -= 1;
+                (d.args[8], d.args[10]) = (d.args[8] - 1, d.args[10] - 1);
                 d.args[0] = (d.args[0] - 1).max(0);
-                d.lists[1] = c.lists[1].chunks(w).flat_map(|row| row[1..].to_vec()).collect();
+                d.lists[1] = c.lists[1].chunks(s).flat_map(|row| row[1..].to_vec()).collect();
             });
         }
         if h > 0 {
             with(&|d| {
                 d.args[9] -= 1;
-                d.lists[1].truncate(w * (h - 1));
+                d.lists[1].truncate(s * (h - 1));
             });
             with(&|d| {
                 d.args[9] -= 1;
                 d.args[1] = (d.args[1] - 1).max(0);
-                d.lists[1].drain(..w);
+                d.lists[1].drain(..s);
             });
         }
     }
     for (i, name) in shape.args.iter().enumerate() {
         let v = c.args[i];
         let better: &[i128] = match *name {
-            "width" | "height" | "n" | "size" | "bits" | "k" | "shift" | "a" | "b" => &[],
+            "width" | "height" | "stride" | "n" | "size" | "bits" | "k" | "shift" | "a" | "b" => &[],
             "depth" => &[8],
             "dc" | "ac" => &[1, 4],
             _ => &[0],

@@ -1,7 +1,7 @@
 //! The digest of calls of every kind, from the Rust: the same draws as crates/draws and crates/digest make, written anew from their
 //! description (oracle/README.md), the refusals by rules.rs. One number, which every host must print.
 
-use crate::{fwd_transform, idct, intra, reconstruct, rules, vbk};
+use crate::{ask, fwd_transform, idct, rules, vbk};
 
 const GOLDEN: u64 = 0x9e37_79b9_7f4a_7c15;
 
@@ -166,13 +166,19 @@ fn block(key: u64, d: &mut Digest, reported: bool) {
     let tokens = filled(lent(draw(key, 2), 32, size), draw(key, 5), scale(draw(key, 6)));
     let side = |r: u64| if r % 64 == 0 { 65_536 } else { r / 64 % 41 };
     let (width, height) = (side(draw(key, 15)), side(draw(key, 16)));
+    let s = draw(key, 18);
+    let stride = match s % 32 {
+        0 => s / 32 % 70_000,
+        k if width <= 40 && k % 2 == 1 => width + s / 32 % 9,
+        _ => width,
+    };
     let r = draw(key, 8);
     let count = if r % 32 == 0 {
-        r / 32 % 1601
-    } else if width.max(height) > 40 {
+        r / 32 % 1921
+    } else if stride > 48 || height > 40 {
         0
     } else {
-        width * height
+        stride * height
     };
     let mut samples: Vec<u16> = (0..count).map(|i| sample(draw(draw(key, 9), i), draw(key, 10) % 4)).collect();
     let place = |r: u64| match r % 32 {
@@ -191,6 +197,7 @@ fn block(key: u64, d: &mut Digest, reported: bool) {
         ac: quantizer(draw(key, 14)),
         width,
         height,
+        stride,
         tokens: &tokens,
         samples: samples.len(),
     };
@@ -200,11 +207,7 @@ fn block(key: u64, d: &mut Digest, reported: bool) {
         answer = 15;
     }
     if answer == 0 {
-        let mut plane = intra::Plane::new(width as usize, height as usize);
-        plane.samples_mut().copy_from_slice(&samples);
-        let (x, y) = (c.x as usize, c.y as usize);
-        reconstruct::reconstruct_block(&mut plane, x, y, size, &tokens, c.dc, c.ac, c.tx_type, c.lossless, c.depth);
-        samples.copy_from_slice(plane.samples());
+        ask::reconstruct_block(&c, &mut samples);
         rules::count(size, &tokens, &mut counts, &mut sums);
     }
     d.feed(answer.into());

@@ -86,6 +86,7 @@ fn ours(c: &Call) -> (Outcome, bool) {
                     s.len(),
                     a(8) as usize,
                     a(9) as usize,
+                    a(10) as usize,
                     a(0) as usize,
                     a(1) as usize,
                     a(2) as u32,
@@ -151,6 +152,7 @@ fn ours_report(c: &Call) -> (Outcome, bool) {
             s.len(),
             a(8) as usize,
             a(9) as usize,
+            a(10) as usize,
             a(0) as usize,
             a(1) as usize,
             a(2) as u32,
@@ -279,11 +281,12 @@ fn report_file(f: &[u8], dir: &str, fault: Option<u32>) {
     println!("  the Rust prints:\n{}", vbk::text(&vbk::replay(&best)));
 }
 
-/// How many calls of a kind were compared, how many of them were done (answer 0), how many differ.
+/// How many calls of a kind were compared, how many of them were done (answer 0), how many of these in padded lines, how many differ.
 #[derive(Clone, Copy, Default)]
 struct Count {
     calls: u64,
     done: u64,
+    padded: u64,
     differ: u64,
 }
 
@@ -338,6 +341,9 @@ pub fn run(seed: u64, count: u64, dir: &str, fault: Option<u32>) -> i32 {
         if call.kind != 26 {
             counts[k].done += u64::from(got.nums[0] == 0);
         }
+        if matches!(call.kind, 22 | 31) && got.nums[0] == 0 {
+            counts[k].padded += u64::from(call.args[10] > call.args[8]);
+        }
         if call.kind == 30 {
             records += got.lists[0].len();
         }
@@ -378,7 +384,11 @@ pub fn run(seed: u64, count: u64, dir: &str, fault: Option<u32>) -> i32 {
     progress_end();
     for (kind, c) in KINDS.iter().zip(&counts) {
         let name = line::shape(*kind).expect("a kind").name;
-        let done = if *kind == 26 { String::new() } else { format!(" ({} answered 0)", c.done) };
+        let done = match kind {
+            22 | 31 => format!(" ({} answered 0, {} of them in padded lines)", c.done, c.padded),
+            26 => String::new(),
+            _ => format!(" ({} answered 0)", c.done),
+        };
         println!("  kind {kind:2} {name:31} {:>9} compared{done}, {} differ", c.calls, c.differ);
     }
     println!("  in all {compared} calls and {records} records of files compared, {} s", began.elapsed().as_secs());

@@ -26,9 +26,9 @@ fn class(c: &Call, o: &Outcome) -> Vec<i128> {
             let outside = c.args[0] >= w || c.args[1] >= h;
             let cut = c.args[0] + n0 > w || c.args[1] + n0 > h;
             let kind = if c.args[4] == 1 { 9 } else { c.args[3] };
-            vec![0, c.args[2], kind, c.args[5], i128::from(cut) + i128::from(outside)]
+            vec![0, c.args[2], kind, c.args[5], i128::from(cut) + i128::from(outside), i128::from(c.args[10] > w)]
         }
-        31 if answer == 0 => vec![0, c.args[2], c.args[5]],
+        31 if answer == 0 => vec![0, c.args[2], c.args[5], i128::from(c.args[10] > c.args[8])],
         22 | 31 => vec![answer, small(c.args[2]), small(c.args[5])],
         32 if answer == 0 => vec![0, c.args[0], pattern(c.args[0], o.lists[0][0] as u32), i128::from(c.lists[0].len() > 1 << (2 * c.args[0]))],
         33 if answer == 0 => {

@@ -68,6 +68,7 @@ pub struct Recon<'a> {
     pub ac: i32,
     pub width: u64,
     pub height: u64,
+    pub stride: u64,
     pub tokens: &'a [i64],
     pub samples: usize,
 }
@@ -91,7 +92,7 @@ pub fn reconstruct(c: &Recon) -> u8 {
     if c.tokens.len() != area(c.size) {
         return 6;
     }
-    if c.width > SIDE_MAX || c.height > SIDE_MAX || c.width * c.height != c.samples as u64 {
+    if [c.width, c.height, c.stride].iter().any(|n| *n > SIDE_MAX) || c.stride < c.width || c.stride * c.height != c.samples as u64 {
         return 7;
     }
     if beyond(c.tokens, codeable(c.depth) as u64) {

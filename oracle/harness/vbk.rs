@@ -98,6 +98,7 @@ pub fn replay(file: &[u8]) -> Replay {
             ac,
             width: width.into(),
             height: height.into(),
+            stride: width.into(),
             tokens: &tokens,
             samples: count,
         });

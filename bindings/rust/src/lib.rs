@@ -379,19 +379,32 @@ pub mod intra {
     /// plane.set(2, 1, 77);
     /// assert_eq!((plane.width(), plane.height(), plane.get(2, 1)), (3, 2, 77));
     /// assert_eq!(plane.samples(), [0, 0, 0, 0, 0, 77]);
+    ///
+    /// // lines of 5: two samples of padding behind each, which no call looks at or writes
+    /// let mut padded = bracetwill::intra::Plane::with_stride(3, 2, 5);
+    /// padded.set(2, 1, 77);
+    /// assert_eq!((padded.width(), padded.stride()), (3, 5));
+    /// assert_eq!(padded.samples(), [0, 0, 0, 0, 0, 0, 0, 77, 0, 0]);
     /// ```
     #[derive(Debug, Clone, PartialEq, Eq)]
     pub struct Plane {
         width: usize,
         height: usize,
+        stride: usize,
         samples: Vec<u16>,
     }
 
     impl Plane {
         /// A plane of zeros.
         pub fn new(width: usize, height: usize) -> Self {
-            let count = width.checked_mul(height).expect("width times height is beyond memory");
-            Self { width, height, samples: vec![0; count] }
+            Self::with_stride(width, height, width)
+        }
+
+        /// A plane of zeros with padded lines: each begins `stride` samples after the one before. Panics where the stride is below the width.
+        pub fn with_stride(width: usize, height: usize, stride: usize) -> Self {
+            assert!(width <= stride, "stride {stride} below the width {width}");
+            let count = stride.checked_mul(height).expect("stride times height is beyond memory");
+            Self { width, height, stride, samples: vec![0; count] }
         }
 
         /// Samples of a row.
@@ -404,24 +417,29 @@ pub mod intra {
             self.height
         }
 
+        /// How far a row is from the next, padding included.
+        pub fn stride(&self) -> usize {
+            self.stride
+        }
+
         /// The sample at row `y`, column `x`; panics outside the plane.
         pub fn get(&self, x: usize, y: usize) -> i32 {
             assert!(x < self.width, "column {x} of {}", self.width);
-            i32::from(self.samples[y * self.width + x])
+            i32::from(self.samples[y * self.stride + x])
         }
 
         /// Writes the sample at row `y`, column `x`; panics outside the plane, and where the value is no u16.
         pub fn set(&mut self, x: usize, y: usize, value: i32) {
             assert!(x < self.width, "column {x} of {}", self.width);
-            self.samples[y * self.width + x] = u16::try_from(value).expect("a sample out of range");
+            self.samples[y * self.stride + x] = u16::try_from(value).expect("a sample out of range");
         }
 
-        /// The samples row by row.
+        /// The samples row by row, padding included.
         pub fn samples(&self) -> &[u16] {
             &self.samples
         }
 
-        /// The samples row by row, to write to.
+        /// The samples row by row, padding included, to write to.
         pub fn samples_mut(&mut self) -> &mut [u16] {
             &mut self.samples
         }
@@ -434,6 +452,10 @@ pub mod intra {
 
         fn height(&self) -> usize {
             self.height
+        }
+
+        fn stride(&self) -> usize {
+            self.stride
         }
 
         fn samples_mut(&mut self) -> &mut [u16] {
@@ -480,7 +502,11 @@ pub mod reconstruct {
         fn width(&self) -> usize;
         /// How many rows there are.
         fn height(&self) -> usize;
-        /// The samples row by row, width × height of them.
+        /// How far a row is from the next. What lies past the width is padding, which no call looks at or writes; without it, the width.
+        fn stride(&self) -> usize {
+            self.width()
+        }
+        /// The samples row by row, stride × height of them.
         fn samples_mut(&mut self) -> &mut [u16];
     }
 
@@ -515,16 +541,17 @@ pub mod reconstruct {
         lossless: bool,
         bit_depth: u32,
     ) -> Result<(), Refusal> {
-        let (width, height) = (plane_buf.width(), plane_buf.height());
+        let (width, height, stride) = (plane_buf.width(), plane_buf.height(), plane_buf.stride());
         let samples = plane_buf.samples_mut();
         // SAFETY: both slices are as many numbers as their lengths say, set and aligned; the `&mut` one is shared with nobody, so they are
-        // apart. Whether the samples are width × height is the call's own test.
+        // apart. Whether the samples are stride × height is the call's own test.
         answer(unsafe {
             archive::bracetwill_reconstruct_block(
                 samples.as_mut_ptr(),
                 samples.len(),
                 width,
                 height,
+                stride,
                 x,
                 y,
                 tx_sz,
@@ -689,16 +716,17 @@ pub mod report {
         bit_depth: u32,
         report: &mut Report,
     ) -> Result<(), Refusal> {
-        let (width, height) = (plane_buf.width(), plane_buf.height());
+        let (width, height, stride) = (plane_buf.width(), plane_buf.height(), plane_buf.stride());
         let samples = plane_buf.samples_mut();
         // SAFETY: the slices are as many numbers as their lengths say and the two lists 44, set and aligned; what is `&mut` is shared with
-        // nobody, so all are apart. Whether the samples are width × height is the call's own test.
+        // nobody, so all are apart. Whether the samples are stride × height is the call's own test.
         answer(unsafe {
             archive::bracetwill_reconstruct_block_report(
                 samples.as_mut_ptr(),
                 samples.len(),
                 width,
                 height,
+                stride,
                 x,
                 y,
                 tx_sz,

@@ -17,7 +17,7 @@ pub enum Refusal {
     Quantizer = 5,
     /// Answer 6: a list has the wrong length.
     Length = 6,
-    /// Answer 7: plane width or height above 65,535, or samples not exactly width times height.
+    /// Answer 7: plane width, height or stride above 65,535, stride below the width, or samples not exactly stride times height.
     Plane = 7,
     /// Answer 8: a token's magnitude above the depth's codeable limit (16,450, 65,602 and 262,210).
     Token = 8,
@@ -47,7 +47,7 @@ pub(crate) const REFUSALS: [(Refusal, &str); 16] = [
     (Refusal::TxType, "not lossless, and a tx_type above 3, or 32 by 32 with a tx_type other than 0"),
     (Refusal::Quantizer, "a quantizer outside 1 to 32,767"),
     (Refusal::Length, "a list has the wrong length"),
-    (Refusal::Plane, "plane width or height above 65,535, or samples not exactly width times height"),
+    (Refusal::Plane, "plane width, height or stride above 65,535, stride below the width, or samples not exactly stride times height"),
     (Refusal::Token, "a token's magnitude above the depth's codeable limit (16,450, 65,602 and 262,210)"),
     (Refusal::Coefficient, "a coefficient beyond its limit (2^27; for the forward WHT 2^23)"),
     (Refusal::Mark, "VBK: the mark is not there"),

@@ -44,11 +44,12 @@ impl Samples for intra::Plane {
     }
 }
 
-/// A plane whose samples need not be width × height.
+/// A plane whose samples need not be stride × height.
 #[derive(Clone, PartialEq)]
 struct Lent {
     width: usize,
     height: usize,
+    stride: usize,
     samples: Vec<u16>,
 }
 
@@ -59,6 +60,10 @@ impl Samples for Lent {
 
     fn height(&self) -> usize {
         self.height
+    }
+
+    fn stride(&self) -> usize {
+        self.stride
     }
 
     fn samples_mut(&mut self) -> &mut [u16] {
@@ -92,7 +97,7 @@ fn in_place(
 fn recon(c: &Call) -> bool {
     let a = |i: usize| c.args[i];
     let (x, y, tx_sz, tx_type, lossless) = (a(0) as usize, a(1) as usize, a(2) as u32, a(3) as u8, a(4) != 0);
-    let (depth, dc, ac, width, height) = (a(5) as u32, a(6) as i32, a(7) as i32, a(8) as usize, a(9) as usize);
+    let (depth, dc, ac, width, height, stride) = (a(5) as u32, a(6) as i32, a(7) as i32, a(8) as usize, a(9) as usize, a(10) as usize);
     let tokens = &c.lists[0];
     let want = rules::reconstruct(&rules::Recon {
         x: x as u64,
@@ -105,10 +110,11 @@ fn recon(c: &Call) -> bool {
         ac,
         width: width as u64,
         height: height as u64,
+        stride: stride as u64,
         tokens,
         samples: c.lists[1].len(),
     });
-    let before = Lent { width, height, samples: c.lists[1].iter().map(|s| *s as u16).collect() };
+    let before = Lent { width, height, stride, samples: c.lists[1].iter().map(|s| *s as u16).collect() };
     let mut lent = before.clone();
     let got = number(bracetwill::reconstruct::try_reconstruct_block(&mut lent, x, y, tx_sz, tokens, dc, ac, tx_type, lossless, depth));
     if got != want {
@@ -120,15 +126,23 @@ fn recon(c: &Call) -> bool {
         }));
         return panics.is_err() && lent == before;
     }
+    // the Rust's plane has no stride: its samples are copied out of their lines, and back
+    let place = |k: usize| k / width * stride + k % width;
     let mut theirs = intra::Plane::new(width, height);
-    theirs.samples_mut().copy_from_slice(&before.samples);
+    for (k, s) in theirs.samples_mut().iter_mut().enumerate() {
+        *s = before.samples[place(k)];
+    }
     let mut ours = theirs.clone();
-    let mut own = bracetwill::intra::Plane::new(width, height);
+    let mut own = bracetwill::intra::Plane::with_stride(width, height, stride);
     own.samples_mut().copy_from_slice(&before.samples);
     reconstruct::reconstruct_block(&mut theirs, x, y, tx_sz, tokens, dc, ac, tx_type, lossless, depth);
     bracetwill::reconstruct::reconstruct_block(&mut ours, x, y, tx_sz, tokens, dc, ac, tx_type, lossless, depth);
     bracetwill::reconstruct::reconstruct_block(&mut own, x, y, tx_sz, tokens, dc, ac, tx_type, lossless, depth);
-    theirs.samples() == ours.samples() && theirs.samples() == own.samples() && theirs.samples() == lent.samples
+    let mut want = before.samples.clone();
+    for (k, s) in theirs.samples().iter().enumerate() {
+        want[place(k)] = *s;
+    }
+    theirs.samples() == ours.samples() && own.samples() == want && lent.samples == want
 }
 
 /// The block as above, and beside it what the rules make of the report.
@@ -136,10 +150,10 @@ fn report(c: &Call) -> bool {
     use bracetwill::report::{Report, reconstruct_block_report, try_reconstruct_block_report};
     let a = |i: usize| c.args[i];
     let (x, y, tx_sz, tx_type, lossless) = (a(0) as usize, a(1) as usize, a(2) as u32, a(3) as u8, a(4) != 0);
-    let (depth, dc, ac, width, height) = (a(5) as u32, a(6) as i32, a(7) as i32, a(8) as usize, a(9) as usize);
+    let (depth, dc, ac, width, height, stride) = (a(5) as u32, a(6) as i32, a(7) as i32, a(8) as usize, a(9) as usize, a(10) as usize);
     let list = |k: usize, i: usize| c.lists[k][i];
     let before = Report::of(std::array::from_fn(|i| list(2, i) as u32), std::array::from_fn(|i| list(3, i) as u64));
-    let start = Lent { width, height, samples: c.lists[1].iter().map(|s| *s as u16).collect() };
+    let start = Lent { width, height, stride, samples: c.lists[1].iter().map(|s| *s as u16).collect() };
     let plain = Call { kind: 22, args: c.args.clone(), lists: c.lists[..2].to_vec() };
     let (mut lent, mut got) = (start.clone(), before.clone());
     let tokens = &c.lists[0];

@@ -15,7 +15,7 @@ WHT_LIMIT = 8388608
 abbrev pub QUANT_LIMIT : ℕ
 QUANT_LIMIT = 32767
 
--- width and height of a plane
+-- width, height and stride of a plane
 abbrev pub SIDE_LIMIT : ℕ
 SIDE_LIMIT = 65535
 

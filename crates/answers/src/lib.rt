@@ -36,7 +36,7 @@ pub const WHT_LIMIT: u64 = 8388608;
 // A quantizer is 1 to this.
 pub const QUANT_LIMIT: i32 = 32767;
 
-// Width and height of a plane.
+// Width, height and stride of a plane.
 pub const SIDE_LIMIT: usize = 65535;
 
 // Bytes of a VBK file.

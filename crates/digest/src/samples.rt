@@ -1,4 +1,4 @@
-// Calls of reconstruct_block and reconstruct_block_report, on planes of 0 to 40 by 0 to 40 samples.
+// Calls of reconstruct_block and reconstruct_block_report, on planes of 0 to 40 by 0 to 40 samples, with up to 8 of padding in a line.
 use crate::drivers::room;
 use crate::reports;
 use plane::Plane;
@@ -8,10 +8,10 @@ ghost use mathlib.Core.Path.{_≡_};
 ghost use lib.ListN.{length};
 
 // Room for the samples of any plane.
-fn samples() -> [u16; 1600]
-    ensures { λ r. ⌜ 1600 ≡ length r ⌝ }
+fn samples() -> [u16; 1920]
+    ensures { λ r. ⌜ 1920 ≡ length r ⌝ }
 {
-    [0; 1600]
+    [0; 1920]
 }
 
 // A side: 0 to 40, or one above every plane.
@@ -22,18 +22,32 @@ fn side(r: u64) -> usize {
     (r / 64 % 41) as usize
 }
 
-// How many samples are lent: mostly those of the plane.
-fn lent(r: u64, width: usize, height: usize) -> usize {
+// How far a line is from the next: the width, with padding in every second plane; now and then any number.
+fn stride(r: u64, width: usize) -> usize {
     if r % 32 == 0 {
-        return (r / 32 % 1601) as usize;
+        return (r / 32 % 70000) as usize;
     }
     if 40 < width {
+        return width;
+    }
+    if r % 2 == 0 {
+        return width;
+    }
+    width + (r / 32 % 9) as usize
+}
+
+// How many samples are lent: mostly those of the plane.
+fn lent(r: u64, stride: usize, height: usize) -> usize {
+    if r % 32 == 0 {
+        return (r / 32 % 1921) as usize;
+    }
+    if 48 < stride {
         return 0;
     }
     if 40 < height {
         return 0;
     }
-    draws::product(width as u64, height as u64) as usize
+    draws::product(stride as u64, height as u64) as usize
 }
 
 // A place: mostly in or near the plane.
@@ -143,12 +157,17 @@ fn on_tokens(tokens: &mut [i64], key: u64, size: u32, reported: bool, digest: u6
     draws::fill(tokens, draws::draw(key, 5), scale(draws::draw(key, 6)));
     let width = side(draws::draw(key, 15));
     let height = side(draws::draw(key, 16));
+    let stride = stride(draws::draw(key, 18), width);
     let mut room = samples();
-    let count = draws::within_samples(lent(draws::draw(key, 8), width, height), &room);
+    let count = draws::within_samples(lent(draws::draw(key, 8), stride, height), &room);
     if reported {
         return on_report(
             &mut room[..count],
-            Plane { width, height },
+            Plane {
+                width,
+                height,
+                stride,
+            },
             tokens,
             key,
             size,
@@ -157,7 +176,11 @@ fn on_tokens(tokens: &mut [i64], key: u64, size: u32, reported: bool, digest: u6
     }
     on_samples(
         &mut room[..count],
-        Plane { width, height },
+        Plane {
+            width,
+            height,
+            stride,
+        },
         tokens,
         key,
         size,

@@ -158,6 +158,7 @@ pub extern "C" fn bracetwill_reconstruct_block(
     samples: &mut [u16],
     width: usize,
     height: usize,
+    stride: usize,
     x: usize,
     y: usize,
     tx_sz: u32,
@@ -168,11 +169,15 @@ pub extern "C" fn bracetwill_reconstruct_block(
     lossless: bool,
     bit_depth: u32,
 ) -> u32
-    ensures { λ r. ⌜ Told reconstructAnswer samplesAfter (record { samples = now (samples .entry); plane = record { width = width; height = height }; x = x; y = y; size = «tx_sz»; tokens = now (tokens .entry); dc = record { 0 = «dc_quant» }; ac = record { 0 = «ac_quant» }; tx-type = «tx_type»; lossless = lossless; depth = «bit_depth» }) r (now (samples .exit)) ⌝ }
+    ensures { λ r. ⌜ Told reconstructAnswer samplesAfter (record { samples = now (samples .entry); plane = record { width = width; height = height; stride = stride }; x = x; y = y; size = «tx_sz»; tokens = now (tokens .entry); dc = record { 0 = «dc_quant» }; ac = record { 0 = «ac_quant» }; tx-type = «tx_type»; lossless = lossless; depth = «bit_depth» }) r (now (samples .exit)) ⌝ }
 {
     let a = reconstruct::reconstruct_block(
         samples,
-        Plane { width, height },
+        Plane {
+            width,
+            height,
+            stride,
+        },
         x,
         y,
         tx_sz,
@@ -192,6 +197,7 @@ pub extern "C" fn bracetwill_reconstruct_block_report(
     samples: &mut [u16],
     width: usize,
     height: usize,
+    stride: usize,
     x: usize,
     y: usize,
     tx_sz: u32,
@@ -204,11 +210,15 @@ pub extern "C" fn bracetwill_reconstruct_block_report(
     counts: &mut [u32; 44],
     sums: &mut [u64; 44],
 ) -> u32
-    ensures { λ r. ⌜ Told reportAnswer lentAfter (record { block = record { samples = now (samples .entry); plane = record { width = width; height = height }; x = x; y = y; size = «tx_sz»; tokens = now (tokens .entry); dc = record { 0 = «dc_quant» }; ac = record { 0 = «ac_quant» }; tx-type = «tx_type»; lossless = lossless; depth = «bit_depth» }; counts = now (counts .entry); sums = now (sums .entry) }) r (record { samples = now (samples .exit); counts = now (counts .exit); sums = now (sums .exit) }) ⌝ }
+    ensures { λ r. ⌜ Told reportAnswer lentAfter (record { block = record { samples = now (samples .entry); plane = record { width = width; height = height; stride = stride }; x = x; y = y; size = «tx_sz»; tokens = now (tokens .entry); dc = record { 0 = «dc_quant» }; ac = record { 0 = «ac_quant» }; tx-type = «tx_type»; lossless = lossless; depth = «bit_depth» }; counts = now (counts .entry); sums = now (sums .entry) }) r (record { samples = now (samples .exit); counts = now (counts .exit); sums = now (sums .exit) }) ⌝ }
 {
     let a = report::reconstruct_block_report(
         samples,
-        Plane { width, height },
+        Plane {
+            width,
+            height,
+            stride,
+        },
         x,
         y,
         tx_sz,

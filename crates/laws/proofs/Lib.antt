@@ -1,3 +1,5 @@
 pub mod Lossless
 pub mod Nothing
 pub mod Conforming
+pub mod Padding
+pub mod Before

@@ -36,7 +36,7 @@ use Rattle.plane.specs.declared.Plane.{Plane}
 use Rattle.plane.specs.Place.{rowOf, columnOf, areaOf, cut, SamplesOf}
 use Rattle.plane.specs.Plane.{clip, inside, sampleAfter, planeAfter}
 use Rattle.plane.proofs.Row.{inside-yes, inside-is}
-use Rattle.plane.proofs.Block.{after-length, after-at, row-of, column-of, place-of, column-in, row-in-plane, off-rows, off-columns, on-block}
+use Rattle.plane.proofs.Block.{after-length, after-at, row-of, column-of, place-of, row-in-plane, off-rows, off-columns, on-block}
 use Rattle.reconstruct.specs.Reconstruct.{largest, badQuantizers, badPlane, badCoefficient, answerOf, residual, added, samplesAfter, Reconstructed}
 use Rattle.reconstruct.proofs.Above.{dequant-abs}
 use Rattle.reconstruct.proofs.Residual.{none-live}
@@ -105,7 +105,14 @@ fours dc ac p q = rw (four (dc .0) p, four (ac .0) q)
 
 plane-good : (p : Plane) (samples : List ℕ) → SamplesOf p samples → badPlane (length samples) p ≡ false
 unfolding badPlane
-plane-good p samples s = rw (le-ltb SIDE_LIMIT (p .width) (s .wide), le-ltb SIDE_LIMIT (p .height) (s .high), eq-eqb (length samples) (areaOf p) (s .all))
+plane-good p samples s =
+    rw (
+      le-ltb (p .stride) (p .width) (s .wide),
+      le-ltb SIDE_LIMIT (p .stride) (s .long),
+      le-ltb SIDE_LIMIT (p .width) (NatL.le-trans (s .wide) (s .long)),
+      le-ltb SIDE_LIMIT (p .height) (s .high),
+      eq-eqb (length samples) (areaOf p) (s .all),
+    )
 
 coefs-good : (dc : DcQuant) (ac : AcQuant) (tokens : List ℤ) → dc .0 ≡ pos 4 → ac .0 ≡ pos 4 → ((k : ℕ) → k < length tokens → natAbs (getD tokens k (pos 0)) ≤ codeable 12)
     → badCoefficient 0 dc ac tokens ≡ false
@@ -181,12 +188,15 @@ module _ (c : Coded) (l : Lossless c) where
   unfolding after
   after-count = after-length (c .plane) (largest (c .depth)) (c .x) (c .y) 4 (at c) (c .samples)
 
-  -- a shown sample is a place of the plane
+  -- a shown sample stands in its line, and is a place of the plane
+  in-line : (i j : ℕ) → Shown c i j → c .x + j < c .plane .stride
+  in-line i j s = omega (arith, s .wide, l .samples-ok .wide)
+
   place-below : (i j : ℕ) → Shown c i j → placeIn c i j < length (c .samples)
   place-below i j s =
-      let w = c .plane .width in
+      let w = c .plane .stride in
       let m : (c .y + i + 1) * w ≤ c .plane .height * w = NatL.mul-le-mul-right w (omega (arith, s .high)) in
-      omega (arith, s .wide, l .samples-ok .all, NatL.add-mul (c .y + i) 1 w, NatL.mul-comm w (c .plane .height))
+      omega (arith, in-line i j s, l .samples-ok .all, NatL.add-mul (c .y + i) 1 w, NatL.mul-comm w (c .plane .height))
 
   shows : (i j : ℕ) → Shown c i j → getD after (placeIn c i j) 0 ≡ c .source i j
   unfolding after
@@ -196,7 +206,7 @@ module _ (c : Coded) (l : Lossless c) where
       let e : c .y + i - c .y ≡ i = omega arith in
       let f : c .x + j - c .x ≡ j = omega arith in
       after-at p top (c .x) (c .y) 4 (at c) (c .samples) (placeIn c i j) (place-below i j s)
-      ∙ rw (row-of p (c .y + i) (s .wide), column-of p (c .y + i) (s .wide))
+      ∙ rw (row-of p (c .y + i) (in-line i j s), column-of p (c .y + i) (in-line i j s))
       (on-block top (at c) (c .x) (c .y) (c .samples) (rowsOf c) (colsOf c) (c .y + i) (c .x + j) (placeIn c i j)
       (inside-yes (c .y) (rowsOf c) (c .y + i) (omega arith) (omega (arith, s .row, s .high))) (inside-yes (c .x) (colsOf c) (c .x + j) (omega arith) (omega (arith, s .column, s .wide)))
       ∙ rw (e, f, l .inside i j s) (sum-back top (c .source i j) (getD (c .samples) (placeIn c i j) 0) (l .source-ok i j s)))
@@ -215,8 +225,9 @@ module _ (c : Coded) (l : Lossless c) where
           let v = inside-is (c .x) (colsOf c) col b in
           let e : c .y + (row - c .y) ≡ row = omega arith in
           let f : c .x + (col - c .x) ≡ col = omega arith in
+          let w : col < c .plane .width = omega arith in
           h (row - c .y) (col - c .x)
-          (record { row = omega arith; column = omega arith; high = rw e (row-in-plane (c .plane) (c .samples) (l .samples-ok) k q); wide = rw f (column-in (c .plane) (c .samples) (l .samples-ok) k q) })
+          (record { row = omega arith; column = omega arith; high = rw e (row-in-plane (c .plane) (c .samples) (l .samples-ok) k q); wide = rw f w })
           (rw (e, f) (sym (place-of (c .plane) (c .samples) (l .samples-ok) k)))
 
       by-tests : (a b : Bool) → inside (c .y) (rowsOf c) (rowOf (c .plane) k) ≡ a → inside (c .x) (colsOf c) (columnOf (c .plane) k) ≡ b

@@ -18,7 +18,7 @@ smallest : Coded
 smallest =
     record {
       samples = 0 ∷ [];
-      plane = record { width = 1; height = 1 };
+      plane = record { width = 1; height = 1; stride = 1 };
       x = 0;
       y = 0;
       dc = record { 0 = pos 4 };
@@ -26,7 +26,7 @@ smallest =
       tx-type = 0;
       depth = 8;
       source = λ i j. 1;
-      differences = differencesOf (record { width = 1; height = 1 }) (0 ∷ []) 0 0 (λ i j. 1);
+      differences = differencesOf (record { width = 1; height = 1; stride = 1 }) (0 ∷ []) 0 0 (λ i j. 1);
     }
 
 dark : (k : ℕ) → getD (0 ∷ []) k 0 ≤ 255
@@ -35,7 +35,7 @@ dark (suc k) = omega arith
 
 coded : Lossless smallest
 unfolding smallest badDepth
-coded = codeable-source smallest refl (record { wide = omega arith; high = omega arith; all = refl }) refl refl (λ i j h. omega arith) (λ i j h. dark (placeIn smallest i j)) refl
+coded = codeable-source smallest refl (record { wide = omega arith; long = omega arith; high = omega arith; all = refl }) refl refl (λ i j h. omega arith) (λ i j h. dark (placeIn smallest i j)) refl
 
 four : getD (shownByNothing smallest) (placeIn smallest 0 0) 0 ≡ 4
 unfolding smallest shownByNothing planeAfter sampleAfter inside dequantAll quantizerAt dequant differencesOf tabulate

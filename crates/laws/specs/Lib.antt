@@ -1,2 +1,3 @@
 pub mod Lossless
 pub mod Conforming
+pub mod Padding

@@ -28,6 +28,7 @@ fn answer_4(token: i64, ac: i32) -> u32 {
     let plane = plane::Plane {
         width: 4,
         height: 4,
+        stride: 4,
     };
     let a = reconstruct::reconstruct_block(
         &mut samples,
@@ -53,6 +54,7 @@ fn answer_32(token: i64, ac: i32) -> u32 {
     let plane = plane::Plane {
         width: 0,
         height: 0,
+        stride: 0,
     };
     let a = reconstruct::reconstruct_block(
         &mut samples,
@@ -90,6 +92,7 @@ fn show_plane(x: usize, y: usize) {
     let plane = plane::Plane {
         width: 6,
         height: 5,
+        stride: 6,
     };
     let a = reconstruct::reconstruct_block(
         &mut samples,
@@ -110,6 +113,37 @@ fn show_plane(x: usize, y: usize) {
     show_row(&samples[12..18]);
     show_row(&samples[18..24]);
     show_row(&samples[24..30]);
+}
+
+// The same in lines of 8: the last two samples of each are padding.
+fn show_padded(x: usize, y: usize) {
+    let mut samples = [100u16; 40];
+    let mut tokens = [0i64; 16];
+    tokens[0] = 5;
+    let plane = plane::Plane {
+        width: 6,
+        height: 5,
+        stride: 8,
+    };
+    let a = reconstruct::reconstruct_block(
+        &mut samples,
+        plane,
+        x,
+        y,
+        0,
+        &tokens,
+        quant::DcQuant(4),
+        quant::AcQuant(4),
+        0,
+        true,
+        8,
+    );
+    show_number(b"plane 6 by 5, stride 8, answer ", answers::code(a) as u64);
+    show_row(&samples[0..8]);
+    show_row(&samples[8..16]);
+    show_row(&samples[16..24]);
+    show_row(&samples[24..32]);
+    show_row(&samples[32..40]);
 }
 
 fn show_coefficients() {
@@ -167,5 +201,6 @@ fn main() {
     show_codeable();
     show_answers();
     show_plane(4, 3);
+    show_padded(4, 3);
     show_plane(6, 3);
 }

@@ -54,11 +54,11 @@ module _ (top : ℕ) (r : ℕ → ℕ → ℤ) (x y : ℕ) (samples : List ℕ) 
       same (no h) (yes l) = inside-yes y i row (omega arith) l ∙ sym (inside-yes y (i + 1) row (omega arith) (omega arith))
       same (no h) (no l) = inside-high y i row (omega arith) ∙ sym (inside-high y (i + 1) row (omega arith))
 
-  module _ (p : Plane) (cols i : ℕ) (fit : x + cols ≤ p .width) (cur next : List ℕ)
-      (had : (row column : ℕ) → column < p .width → getD cur (placeOf p row column) 0 ≡ sampleAfter top r x y i cols samples row column (placeOf p row column))
+  module _ (p : Plane) (cols i : ℕ) (fit : x + cols ≤ p .stride) (cur next : List ℕ)
+      (had : (row column : ℕ) → column < p .stride → getD cur (placeOf p row column) 0 ≡ sampleAfter top r x y i cols samples row column (placeOf p row column))
       (new : (k : ℕ) → getD next k 0 ≡ rowAfter top (r i) (placeOf p (y + i) x) cols cur k) where
     -- the row that is written
-    here : (column : ℕ) → column < p .width
+    here : (column : ℕ) → column < p .stride
         → getD next (placeOf p (y + i) column) 0 ≡ sampleAfter top r x y (i + 1) cols samples (y + i) column (placeOf p (y + i) column)
     here column l = go (decLt column x) (decLt column (x + cols))
       where
@@ -86,7 +86,7 @@ module _ (top : ℕ) (r : ℕ → ℕ → ℤ) (x y : ℕ) (samples : List ℕ) 
             (on-block (i + 1) cols (y + i) column (placeOf p (y + i) column) (inside-yes y (i + 1) (y + i) (omega arith) (omega arith)) (inside-yes x cols column (omega arith) q)
             ∙ rw f refl))
 
-    pub block-more : (row column : ℕ) → column < p .width
+    pub block-more : (row column : ℕ) → column < p .stride
         → getD next (placeOf p row column) 0 ≡ sampleAfter top r x y (i + 1) cols samples row column (placeOf p row column)
     block-more row column l = go (ℕ-discrete row (y + i)) (decLt row (y + i))
       where
@@ -94,16 +94,16 @@ module _ (top : ℕ) (r : ℕ → ℕ → ℤ) (x y : ℕ) (samples : List ℕ) 
             → getD next (placeOf p row column) 0 ≡ sampleAfter top r x y (i + 1) cols samples row column (placeOf p row column)
         go (yes e) d = rw e (here column l)
         go (no ne) (yes h) =
-            let m : (row + 1) * p .width ≤ (y + i) * p .width = NatL.mul-le-mul-right (p .width) (omega arith) in
+            let m : (row + 1) * p .stride ≤ (y + i) * p .stride = NatL.mul-le-mul-right (p .stride) (omega arith) in
             new (placeOf p row column)
             ∙ row-out top (r i) (placeOf p (y + i) x) cur cols (placeOf p row column)
-            (inside-low (placeOf p (y + i) x) cols (placeOf p row column) (omega (arith, NatL.add-mul row 1 (p .width))))
+            (inside-low (placeOf p (y + i) x) cols (placeOf p row column) (omega (arith, NatL.add-mul row 1 (p .stride))))
             ∙ had row column l ∙ other-row i cols row column (placeOf p row column) ne
         go (no ne) (no h) =
-            let m : (y + i + 1) * p .width ≤ row * p .width = NatL.mul-le-mul-right (p .width) (omega arith) in
+            let m : (y + i + 1) * p .stride ≤ row * p .stride = NatL.mul-le-mul-right (p .stride) (omega arith) in
             new (placeOf p row column)
             ∙ row-out top (r i) (placeOf p (y + i) x) cur cols (placeOf p row column)
-            (inside-high (placeOf p (y + i) x) cols (placeOf p row column) (omega (arith, NatL.add-mul (y + i) 1 (p .width))))
+            (inside-high (placeOf p (y + i) x) cols (placeOf p row column) (omega (arith, NatL.add-mul (y + i) 1 (p .stride))))
             ∙ had row column l ∙ other-row i cols row column (placeOf p row column) ne
 
 -- the samples afterwards: how many, and the one at place k
@@ -119,10 +119,10 @@ module _ (p : Plane) (top x y n0 : ℕ) (r : ℕ → ℕ → ℤ) (samples : Lis
   after-at k h = getD-tabulate _ (length samples) k 0 h
 
 -- the row and the column of a place that was made of them
-pub row-of : (p : Plane) (row : ℕ) {column : ℕ} → column < p .width → rowOf p (placeOf p row column) ≡ row
+pub row-of : (p : Plane) (row : ℕ) {column : ℕ} → column < p .stride → rowOf p (placeOf p row column) ≡ row
 row-of p row h = digits-div row h
 
-pub column-of : (p : Plane) (row : ℕ) {column : ℕ} → column < p .width → columnOf p (placeOf p row column) ≡ column
+pub column-of : (p : Plane) (row : ℕ) {column : ℕ} → column < p .stride → columnOf p (placeOf p row column) ≡ column
 column-of p row h = digits-mod row h
 
 -- residuals that agree in the rows and columns
@@ -143,23 +143,23 @@ block-same top r q x y samples rows cols row column k e = go (inside y rows row)
 
 module _ (p : Plane) (samples : List ℕ) (s : SamplesOf p samples) where
   -- a place of the plane has a column, and a row, of the plane
-  pub some-column : (k : ℕ) → k < length samples → 0 < p .width
-  some-column k l = go (decLt 0 (p .width))
+  pub some-column : (k : ℕ) → k < length samples → 0 < p .stride
+  some-column k l = go (decLt 0 (p .stride))
     where
-      go : Dec (0 < p .width) → 0 < p .width
+      go : Dec (0 < p .stride) → 0 < p .stride
       go (yes h) = h
       go (no h) =
-          let e : p .width ≡ 0 = omega arith in absurd (let z : k < 0 * p .height = rw e at (rw (s .all) at l) in omega arith)
+          let e : p .stride ≡ 0 = omega arith in absurd (let z : k < 0 * p .height = rw e at (rw (s .all) at l) in omega arith)
 
-  pub column-in : (k : ℕ) → k < length samples → columnOf p k < p .width
+  pub column-in : (k : ℕ) → k < length samples → columnOf p k < p .stride
   column-in k l = NatL.mod-lt k (some-column k l)
 
   pub row-in-plane : (k : ℕ) → k < length samples → rowOf p k < p .height
   row-in-plane k l =
-      NatL.div-lt-iff-lt-mul {k = p .width} {x = k} {y = p .height} (some-column k l) .1 (omega (arith, NatL.mul-comm (p .width) (p .height), s .all))
+      NatL.div-lt-iff-lt-mul {k = p .stride} {x = k} {y = p .height} (some-column k l) .1 (omega (arith, NatL.mul-comm (p .stride) (p .height), s .all))
 
   pub place-of : (k : ℕ) → placeOf p (rowOf p k) (columnOf p k) ≡ k
-  place-of k = NatL.div-add-mod' k (p .width)
+  place-of k = NatL.div-add-mod' k (p .stride)
 
   module _ (top x y n0 : ℕ) (r : ℕ → ℕ → ℤ) where
     -- no column of the block in the plane
@@ -175,7 +175,7 @@ module _ (p : Plane) (samples : List ℕ) (s : SamplesOf p samples) where
 
     -- the plane, from what stands at each row and column
     pub by-rows : (l : List ℕ) → length l ≡ length samples
-        → ((row column : ℕ) → column < p .width
+        → ((row column : ℕ) → column < p .stride
         → getD l (placeOf p row column) 0 ≡ sampleAfter top r x y (cut (p .height) y n0) (cut (p .width) x n0) samples row column (placeOf p row column))
         → l ≡ planeAfter p top x y n0 r samples
     unfolding planeAfter

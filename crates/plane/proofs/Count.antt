@@ -71,20 +71,24 @@ pub writes-there : (p : Plane) (top x y n0 : ℕ) (r : ℕ → ℕ → ℤ) (sam
 unfolding planeAfter sampleAfter writes
 writes-there p top x y n0 r samples k h = getD-tabulate _ (length samples) k 0 h
 
+-- cut to fewer, none of more is left out
+cut-again : (few more start n : ℕ) → few ≤ more → min (cut few start n) (more - start) ≡ cut few start n
+cut-again few more start n h = omega arith
+
 -- THE COUNT: of the plane's places, those that the block writes
-pub written-count : (p : Plane) (x y n0 : ℕ) → countBelow (writes p x y n0) (areaOf p) ≡ written p x y n0
+pub written-count : (p : Plane) (x y n0 : ℕ) → p .width ≤ p .stride → countBelow (writes p x y n0) (areaOf p) ≡ written p x y n0
 unfolding writes written
-written-count p x y n0 =
+written-count p x y n0 wide =
     let rows = cut (p .height) y n0 in
     let cols = cut (p .width) x n0 in
-    ap (countBelow (λ k. inside y rows (rowOf p k) && inside x cols (columnOf p k))) (NatL.mul-comm (p .width) (p .height))
-    ∙ grid (inside y rows) (inside x cols) (λ k. inside y rows (rowOf p k) && inside x cols (columnOf p k)) (p .width) (p .height)
+    ap (countBelow (λ k. inside y rows (rowOf p k) && inside x cols (columnOf p k))) (NatL.mul-comm (p .stride) (p .height))
+    ∙ grid (inside y rows) (inside x cols) (λ k. inside y rows (rowOf p k) && inside x cols (columnOf p k)) (p .stride) (p .height)
     (λ i j l k. rw (row-of p i k, column-of p i k))
-    ∙ rw (count-inside y rows (p .height), count-inside x cols (p .width))
-    (let a : min rows (p .height - y) ≡ rows = omega arith in let b : min cols (p .width - x) ≡ cols = omega arith in rw (a, b))
+    ∙ rw (count-inside y rows (p .height), count-inside x cols (p .stride))
+    (rw (cut-again (p .height) (p .height) y n0 (NatL.le-refl (p .height)), cut-again (p .width) (p .stride) x n0 wide))
 
--- they are no more than the plane has, and no more than the block has
-pub written-most : (p : Plane) (x y n0 : ℕ) → written p x y n0 ≤ areaOf p
+-- they are no more than the plane has, padding left out, and no more than the block has
+pub written-most : (p : Plane) (x y n0 : ℕ) → written p x y n0 ≤ p .width * p .height
 unfolding written
 written-most p x y n0 =
     NatL.le-trans (NatL.mul-le-mul (omega arith) (omega arith)) (NatL.le-of-eq (NatL.mul-comm (p .height) (p .width)))

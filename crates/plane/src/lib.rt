@@ -10,18 +10,19 @@ ghost use Rattle.plane.specs.Place.{placeOf, SamplesOf, cut};
 ghost use Rattle.plane.specs.Plane.{clip, planeAfter};
 ghost use Rattle.plane.specs.Inner.{rowAfter};
 
-// A plane's width and height. Its samples are lent beside it.
+// A plane's width and height, and how far a line is from the next. Its samples are lent beside it.
 pub struct Plane {
     pub width: usize,
     pub height: usize,
+    pub stride: usize,
 }
 
 // The place of the sample of a row and column.
 fn place(plane: Plane, row: usize, column: usize) -> usize
-    requires { ⌜ (plane .width ≤ SIDE_LIMIT) × (row ≤ SIDE_LIMIT) × (column ≤ SIDE_LIMIT) ⌝ }
+    requires { ⌜ (plane .stride ≤ SIDE_LIMIT) × (row ≤ SIDE_LIMIT) × (column ≤ SIDE_LIMIT) ⌝ }
     ensures { λ r. ⌜ r ≡ placeOf plane row column ⌝ }
 {
-    row * plane.width + column
+    row * plane.stride + column
 }
 
 // Of n rows or columns from `start` on, how many lie in a plane that has `count` of them.

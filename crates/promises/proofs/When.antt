@@ -86,25 +86,45 @@ ac-test u b = T.right (badQuantizer (u .dc .0)) (badQuantizer (u .ac .0)) (T.qua
 no-plane : (u : R.Input) → R.badPlane (length (u .samples)) (u .plane) ≡ true → W.Reconstruct u 7
 unfolding R.badPlane
 no-plane u h =
+    let s = ltb (u .plane .stride) (u .plane .width) in
+    let l = ltb SIDE_LIMIT (u .plane .stride) in
     let w = ltb SIDE_LIMIT (u .plane .width) in
     let v = ltb SIDE_LIMIT (u .plane .height) in
     let c = not (eqb (length (u .samples)) (areaOf (u .plane))) in
-    T.or-true w (v || c) (λ e. W.wide (ltb-true SIDE_LIMIT (u .plane .width) e))
-    (λ e. T.or-true v c (λ f. W.high (ltb-true SIDE_LIMIT (u .plane .height) f)) (λ f. W.samples (T.differ (length (u .samples)) (areaOf (u .plane)) f)) e)
+    T.or-true s (l || (w || (v || c))) (λ e. W.short (ltb-true (u .plane .stride) (u .plane .width) e))
+    (T.or-true l (w || (v || c)) (λ e. W.long (ltb-true SIDE_LIMIT (u .plane .stride) e))
+    (T.or-true w (v || c) (λ e. W.wide (ltb-true SIDE_LIMIT (u .plane .width) e))
+    (T.or-true v c (λ e. W.high (ltb-true SIDE_LIMIT (u .plane .height) e)) (λ e. W.samples (T.differ (length (u .samples)) (areaOf (u .plane)) e)))))
     h
 
-wide-test : (u : R.Input) → SIDE_LIMIT < u .plane .width → R.badPlane (length (u .samples)) (u .plane) ≡ true
+short-test : (u : R.Input) → u .plane .stride < u .plane .width → R.badPlane (length (u .samples)) (u .plane) ≡ true
 unfolding R.badPlane
-wide-test u h = rw (lt-ltb SIDE_LIMIT (u .plane .width) h)
+short-test u h = T.left (ltb (u .plane .stride) (u .plane .width)) _ (lt-ltb (u .plane .stride) (u .plane .width) h)
+
+-- the tests after the first
+later-test : (u : R.Input) → ltb SIDE_LIMIT (u .plane .stride) || (ltb SIDE_LIMIT (u .plane .width) || (ltb SIDE_LIMIT (u .plane .height) || not (eqb (length (u .samples)) (areaOf (u .plane))))) ≡ true
+    → R.badPlane (length (u .samples)) (u .plane) ≡ true
+unfolding R.badPlane
+later-test u h = T.right (ltb (u .plane .stride) (u .plane .width)) _ h
+
+long-test : (u : R.Input) → SIDE_LIMIT < u .plane .stride → R.badPlane (length (u .samples)) (u .plane) ≡ true
+long-test u h = later-test u (T.left (ltb SIDE_LIMIT (u .plane .stride)) _ (lt-ltb SIDE_LIMIT (u .plane .stride) h))
+
+wide-test : (u : R.Input) → SIDE_LIMIT < u .plane .width → R.badPlane (length (u .samples)) (u .plane) ≡ true
+wide-test u h =
+    later-test u (T.right (ltb SIDE_LIMIT (u .plane .stride)) _ (T.left (ltb SIDE_LIMIT (u .plane .width)) _ (lt-ltb SIDE_LIMIT (u .plane .width) h)))
 
 high-test : (u : R.Input) → SIDE_LIMIT < u .plane .height → R.badPlane (length (u .samples)) (u .plane) ≡ true
-unfolding R.badPlane
-high-test u h = rw (lt-ltb SIDE_LIMIT (u .plane .height) h) (T.right (ltb SIDE_LIMIT (u .plane .width)) true refl)
+high-test u h =
+    later-test u
+    (T.right (ltb SIDE_LIMIT (u .plane .stride)) _
+    (T.right (ltb SIDE_LIMIT (u .plane .width)) _ (T.left (ltb SIDE_LIMIT (u .plane .height)) _ (lt-ltb SIDE_LIMIT (u .plane .height) h))))
 
 samples-test : (u : R.Input) → (length (u .samples) ≡ areaOf (u .plane) → ⊥) → R.badPlane (length (u .samples)) (u .plane) ≡ true
-unfolding R.badPlane
 samples-test u h =
-    T.right (ltb SIDE_LIMIT (u .plane .width)) _ (T.right (ltb SIDE_LIMIT (u .plane .height)) _ (T.differs (length (u .samples)) (areaOf (u .plane)) h))
+    later-test u
+    (T.right (ltb SIDE_LIMIT (u .plane .stride)) _
+    (T.right (ltb SIDE_LIMIT (u .plane .width)) _ (T.right (ltb SIDE_LIMIT (u .plane .height)) _ (T.differs (length (u .samples)) (areaOf (u .plane)) h))))
 
 reconstruct-has : (u : R.Input) (n : ℕ) → W.Reconstruct u n
     → Applies n
@@ -126,6 +146,8 @@ reconstruct-has u n (W.tx-type h) = there (there (there (here-if 4 _ _ (T.tx-typ
 reconstruct-has u n (W.dc h) = there (there (there (there (here-if 5 _ _ (dc-test u h)))))
 reconstruct-has u n (W.ac h) = there (there (there (there (here-if 5 _ _ (ac-test u h)))))
 reconstruct-has u n (W.count h) = there (there (there (there (there (here-if 6 _ _ (T.differs (length (u .tokens)) (area (u .size + 2)) h))))))
+reconstruct-has u n (W.short h) = there (there (there (there (there (there (here-if 7 _ _ (short-test u h)))))))
+reconstruct-has u n (W.long h) = there (there (there (there (there (there (here-if 7 _ _ (long-test u h)))))))
 reconstruct-has u n (W.wide h) = there (there (there (there (there (there (here-if 7 _ _ (wide-test u h)))))))
 reconstruct-has u n (W.high h) = there (there (there (there (there (there (here-if 7 _ _ (high-test u h)))))))
 reconstruct-has u n (W.samples h) = there (there (there (there (there (there (here-if 7 _ _ (samples-test u h)))))))

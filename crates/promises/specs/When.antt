@@ -56,9 +56,11 @@ pub data Reconstruct (u : R.Input) : ℕ → Type 0 where
   dc : NoQuantizer (u .dc .0) → Reconstruct u 5
   ac : NoQuantizer (u .ac .0) → Reconstruct u 5
   count : (length (u .tokens) ≡ area (u .size + 2) → ⊥) → Reconstruct u 6
+  short : u .plane .stride < u .plane .width → Reconstruct u 7
+  long : SIDE_LIMIT < u .plane .stride → Reconstruct u 7
   wide : SIDE_LIMIT < u .plane .width → Reconstruct u 7
   high : SIDE_LIMIT < u .plane .height → Reconstruct u 7
-  samples : (length (u .samples) ≡ u .plane .width * u .plane .height → ⊥) → Reconstruct u 7
+  samples : (length (u .samples) ≡ u .plane .stride * u .plane .height → ⊥) → Reconstruct u 7
   token : SomeBeyond (codeable (u .depth)) (length (u .tokens)) (u .tokens) → Reconstruct u 8
   coefficient : SomeBeyond COEF_LIMIT (length (u .tokens)) (dequantAll (u .size) (u .dc) (u .ac) (u .tokens)) → Reconstruct u 9
 

@@ -71,12 +71,17 @@ neither false b h = (refl, h)
 plane-fine : (samples : List ℕ) (p : Plane) → badPlane (length samples) p ≡ false → SamplesOf p samples
 unfolding badPlane
 plane-fine samples p h =
-    let a = neither (ltb SIDE_LIMIT (p .width)) (ltb SIDE_LIMIT (p .height) || not (eqb (length samples) (areaOf p))) h in
-    let b = neither (ltb SIDE_LIMIT (p .height)) (not (eqb (length samples) (areaOf p))) (a .1) in
+    let count = not (eqb (length samples) (areaOf p)) in
+    let high = ltb SIDE_LIMIT (p .height) in
+    let wide = ltb SIDE_LIMIT (p .width) in
+    let a = neither (ltb (p .stride) (p .width)) (ltb SIDE_LIMIT (p .stride) || (wide || (high || count))) h in
+    let b = neither (ltb SIDE_LIMIT (p .stride)) (wide || (high || count)) (a .1) in
+    let d = neither high count (neither wide (high || count) (b .1) .1) in
     record {
-      wide = ltb-false SIDE_LIMIT (p .width) (a .0);
-      high = ltb-false SIDE_LIMIT (p .height) (b .0);
-      all = eqb-true (length samples) (areaOf p) (not-false (eqb (length samples) (areaOf p)) (b .1));
+      wide = ltb-false (p .stride) (p .width) (a .0);
+      long = ltb-false SIDE_LIMIT (p .stride) (b .0);
+      high = ltb-false SIDE_LIMIT (p .height) (d .0);
+      all = eqb-true (length samples) (areaOf p) (not-false (eqb (length samples) (areaOf p)) (d .1));
     }
 
 possible : (size tx-type : ℕ) (lossless : Bool) → size ≤ 3 → badLossless lossless size ≡ false → badTxType lossless size tx-type ≡ false → Possible (size + 2) tx-type lossless

@@ -41,9 +41,11 @@ largest depth = 2 ^ depth - 1
 unfoldable pub badQuantizers : DcQuant → AcQuant → Bool
 badQuantizers dc ac = badQuantizer (dc .0) || badQuantizer (ac .0)
 
--- 7: a side above its limit, or samples not exactly width × height
+-- 7: a stride below the width, a stride or a side above its limit, or samples not exactly stride × height
 unfoldable pub badPlane : ℕ → Plane → Bool
-badPlane count p = ltb SIDE_LIMIT (p .width) || (ltb SIDE_LIMIT (p .height) || not (eqb count (areaOf p)))
+badPlane count p =
+    ltb (p .stride) (p .width)
+    || (ltb SIDE_LIMIT (p .stride) || (ltb SIDE_LIMIT (p .width) || (ltb SIDE_LIMIT (p .height) || not (eqb count (areaOf p)))))
 
 -- 9: a coefficient beyond its limit
 unfoldable pub badCoefficient : ℕ → DcQuant → AcQuant → List ℤ → Bool

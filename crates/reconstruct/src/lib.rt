@@ -60,19 +60,23 @@ fn bad_quantizers(dc_quant: DcQuant, ac_quant: AcQuant) -> bool
     ac_quant.bad()
 }
 
-// A side above its limit, or samples not exactly width × height.
+// A stride below the width, a stride or a side above its limit, or samples not exactly stride × height. A width above the limit is one of the first two.
 fn bad_plane(samples: usize, plane: Plane) -> bool
     ensures { λ r. ⌜ r ≡ badPlane samples plane ⌝ }
 {
     let width = plane.width;
     let height = plane.height;
-    if SIDE_LIMIT < width {
+    let stride = plane.stride;
+    if stride < width {
+        return true;
+    }
+    if SIDE_LIMIT < stride {
         return true;
     }
     if SIDE_LIMIT < height {
         return true;
     }
-    samples != width * height
+    samples != stride * height
 }
 
 // The answer as far as it needs no token and no sample.

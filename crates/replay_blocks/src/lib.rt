@@ -144,6 +144,7 @@ struct Block {
     ac: i32,
     width: u64,
     height: u64,
+    stride: u64,
     next: usize,
 }
 
@@ -158,6 +159,7 @@ fn read_block(line: &[u8], at: usize) -> Block {
     let ac = lines::read_signed32(line, dc.next);
     let width = lines::read_unsigned(line, ac.next);
     let height = lines::read_unsigned(line, width.next);
+    let stride = lines::read_unsigned(line, height.next);
     Block {
         x: x.value,
         y: y.value,
@@ -169,7 +171,8 @@ fn read_block(line: &[u8], at: usize) -> Block {
         ac: ac.value,
         width: width.value,
         height: height.value,
-        next: height.next,
+        stride: stride.value,
+        next: stride.next,
     }
 }
 
@@ -183,6 +186,7 @@ fn reconstruct(b: Block, tokens: &[i64], samples: &mut [u16], numbers: &mut [i64
         Plane {
             width: b.width as usize,
             height: b.height as usize,
+            stride: b.stride as usize,
         },
         b.x as usize,
         b.y as usize,
@@ -337,6 +341,7 @@ fn reconstruct_report(
         Plane {
             width: b.width as usize,
             height: b.height as usize,
+            stride: b.stride as usize,
         },
         b.x as usize,
         b.y as usize,

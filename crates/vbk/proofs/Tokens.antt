@@ -57,7 +57,7 @@ module _ (s : List ℕ) (at : ℕ) (samples : List ℕ) (head : Head) (fields : 
   given =
       record {
         samples = samples;
-        plane = record { width = fields .width; height = fields .height };
+        plane = record { width = fields .width; height = fields .height; stride = fields .width };
         x = head .x;
         y = head .y;
         size = head .size;

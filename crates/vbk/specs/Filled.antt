@@ -8,7 +8,7 @@ reconstruction samples width height x y size tokens dc ac tx-type lossless depth
     let u : Input =
     record {
       samples = samples;
-      plane = record { width = width; height = height };
+      plane = record { width = width; height = height; stride = width };
       x = x;
       y = y;
       size = size;

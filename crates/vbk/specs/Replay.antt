@@ -45,9 +45,9 @@ RECORD_LIMIT = 874
 unfoldable pub touchedBy : ℕ → Plane → Head → ℕ
 touchedBy answer p head = cond (eqb answer 0) (written p (head .x) (head .y) (side (head .size + 2))) 0
 
--- the plane of a file
+-- the plane of a file: its lines have no padding
 abbrev pub planeOf : List ℕ → Plane
-planeOf s = record { width = widthOf s; height = heightOf s }
+planeOf s = record { width = widthOf s; height = heightOf s; stride = widthOf s }
 
 module _ (R : Reconstruction) (s : List ℕ) where
   -- reconstruction with the numbers of the record at a place

@@ -36,7 +36,7 @@ pub fn number8(a: Answer) -> u8
 // The touched count: the samples written, for an answer 0.
 pub fn touched_by(answer: u8, fields: Fields, head: Head) -> usize
     requires { ⌜ head .size ≤ 3 ⌝ }
-    ensures { λ r. ⌜ r ≡ touchedBy answer (record { width = fields .width; height = fields .height }) head ⌝ }
+    ensures { λ r. ⌜ r ≡ touchedBy answer (record { width = fields .width; height = fields .height; stride = fields .width }) head ⌝ }
 {
     if answer != 0 {
         return 0;
@@ -62,11 +62,13 @@ fn rebuild(file: &[u8], at: usize, head: Head, fields: Fields, samples: &mut [u1
     let mut tokens = words::zeros();
     let start = head.next;
     start.read_tokens(file, n, &mut tokens);
+    let width = fields.width as usize;
     reconstruct::reconstruct_block(
         samples,
         Plane {
-            width: fields.width as usize,
+            width,
             height: fields.height as usize,
+            stride: width,
         },
         head.x as usize,
         head.y as usize,

@@ -27,7 +27,7 @@ module _ (s : List ℕ) (at : ℕ) (samples counts sums : List ℕ) (head : Head
         block =
             record {
               samples = samples;
-              plane = record { width = fields .width; height = fields .height };
+              plane = record { width = fields .width; height = fields .height; stride = fields .width };
               x = head .x;
               y = head .y;
               size = head .size;

@@ -17,7 +17,7 @@ given l width height x y size tokens dc ac tx-type lossless depth =
       block =
           record {
             samples = samplesIn l;
-            plane = record { width = width; height = height };
+            plane = record { width = width; height = height; stride = width };
             x = x;
             y = y;
             size = size;

@@ -39,11 +39,13 @@ fn rebuild(
     let mut tokens = words::zeros();
     let start = head.next;
     start.read_tokens(file, n, &mut tokens);
+    let width = fields.width as usize;
     report::reconstruct_block_report(
         samples,
         Plane {
-            width: fields.width as usize,
+            width,
             height: fields.height as usize,
+            stride: width,
         },
         head.x as usize,
         head.y as usize,

@@ -27,7 +27,7 @@ use intra::{Plane, PredMode};
 use line::Call;
 use rng::Rng;
 
-/// A call of kind 22 whose samples fill its plane: taken, both give the same samples; refused, the number is the rules', and the samples stay.
+/// A call of kind 22 whose samples fill its plane without padding: taken, both give the same samples; refused, the number is the rules', and the samples stay.
 fn block(c: &Call) -> Option<bool> {
     if c.kind != 22 {
         return None;
@@ -35,7 +35,7 @@ fn block(c: &Call) -> Option<bool> {
     let a = |i: usize| c.args[i];
     let (width, height) = (a(8) as usize, a(9) as usize);
     let before: Vec<u16> = c.lists[1].iter().map(|s| *s as u16).collect();
-    if width.checked_mul(height) != Some(before.len()) {
+    if width.checked_mul(height) != Some(before.len()) || a(10) != a(8) {
         return None;
     }
     let (tx_type, tokens) = (a(3) as u8, &c.lists[0][..]);
@@ -60,6 +60,7 @@ fn block(c: &Call) -> Option<bool> {
         ac: b.ac_quant,
         width: width as u64,
         height: height as u64,
+        stride: width as u64,
         tokens,
         samples: before.len(),
     });

@@ -15,7 +15,7 @@ use Rattle.plane.proofs.add_rows.Tie as tie
 abbrev Inv-loop : tie.InvT-loop
 Inv-loop samples₀ plane x y residual step n0 rows cols top i₀ samples i =
     ((i ≤ rows) × (length samples ≡ length samples₀))
-    × ((row column : ℕ) → column < plane .width
+    × ((row column : ℕ) → column < plane .stride
     → getD samples (placeOf plane row column) 0
     ≡ sampleAfter top (λ i j. getD residual (i * step + j) (pos 0)) x y i cols samples₀ row column (placeOf plane row column))
 
@@ -34,7 +34,7 @@ loop-holds c =
 place-requires : tie.Need-place-requires Inv-loop μ-loop
 place-requires c κs =
     let p = c .before .before .before .before .pre .0 in
-    (p .0 .wide, omega (arith, p .0 .high, p .2), omega (arith, p .0 .wide, p .1))
+    (p .0 .long, omega (arith, p .0 .high, p .2), omega (arith, p .0 .wide, p .0 .long, p .1))
 
 mul-add-row : tie.Need-mul-add-row Inv-loop μ-loop
 mul-add-row c =
@@ -47,10 +47,10 @@ add-row-requires c κs =
     let s = c .before .before .before .before .before in
     let a = s .args in
     let l = c .before .before .before .loop in
-    let m : (a .y + l .i + 1) * a .plane .width ≤ a .plane .height * a .plane .width =
-    NatL.mul-le-mul-right (a .plane .width) (omega (arith, s .pre .0 .2)) in (
+    let m : (a .y + l .i + 1) * a .plane .stride ≤ a .plane .height * a .plane .stride =
+    NatL.mul-le-mul-right (a .plane .stride) (omega (arith, s .pre .0 .2)) in (
       omega
-          (arith, c .place .ensures, s .pre .0 .0 .all, s .pre .0 .1, s .pre .0 .3, NatL.add-mul (a .y + l .i) 1 (a .plane .width), NatL.mul-comm (a .plane .width) (a .plane .height)),
+          (arith, c .place .ensures, s .pre .0 .0 .all, s .pre .0 .1, s .pre .0 .3, s .pre .0 .0 .wide, NatL.add-mul (a .y + l .i) 1 (a .plane .stride), NatL.mul-comm (a .plane .stride) (a .plane .height)),
       omega (arith, s .pre .1 .2 (l .i) (a .cols - 1) (omega (arith, s .pre .0 .2)) (omega (arith, s .pre .0 .1, s .pre .0 .2, s .pre .0 .3)), s .pre .0 .1, s .pre .0 .2, s .pre .0 .3),
       s .pre .1 .3,
     )
@@ -62,7 +62,7 @@ loop-again c =
     let l = c .before .before .before .before .before .before .loop in (
       (omega arith, c .before .before .add-row .kept .0 ∙ l .inv .0 .1),
       block-more (a .top) (λ i j. getD (a .residual .now) (i * a .step + j) (pos 0)) (a .x) (a .y) (a .samples .now) (a .plane) (a .cols) (l .i)
-          (omega (arith, s .pre .0 .1, s .pre .0 .3)) (l .samples) (c .before .before .add-row .last .0) (l .inv .1)
+          (omega (arith, s .pre .0 .0 .wide, s .pre .0 .1, s .pre .0 .3)) (l .samples) (c .before .before .add-row .last .0) (l .inv .1)
           (rw (c .before .before .before .place .ensures) at (c .before .before .add-row .ensures)),
     )
 

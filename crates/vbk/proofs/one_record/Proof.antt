@@ -18,7 +18,7 @@ add-t15 : tie.Need-add-t15
 add-t15 c =
     let s = c .before .before .before .before .before .before .before .before .before in
     let t = c .before .touched-by in
-    record { fits = omega (arith, s .pre .4, t .ensures, touched-most (c .before .before .before .before .answer-record .result) (record { width = s .args .fields .width; height = s .args .fields .height }) (s .args .«record» .head), count-most (s .args .«record» .head .size) (head-size (s .args .file .now) (s .args .at) (s .pre .1))) }
+    record { fits = omega (arith, s .pre .4, t .ensures, touched-most (c .before .before .before .before .answer-record .result) (record { width = s .args .fields .width; height = s .args .fields .height; stride = s .args .fields .width }) (s .args .«record» .head), count-most (s .args .«record» .head .size) (head-size (s .args .file .now) (s .args .at) (s .pre .1))) }
 
 returns : tie.Need-returns
 returns c =
@@ -30,7 +30,7 @@ returns c =
       count-is = search needs;
       touched-is =
           ap (λ (x : ℕ). a .tally .touched + x)
-          (t .ensures ∙ ap (λ (x : ℕ). touchedBy x (record { width = a .fields .width; height = a .fields .height }) (a .«record» .head)) (r .ensures .0) ∙ ap (λ (f : Fields). touchedBy (recordAt reconstruction (a .file .now) (a .at) (a .samples .now) .answer) (record { width = f .width; height = f .height }) (a .«record» .head)) (s .pre .0) ∙ touched-head (a .file .now) (a .at) (s .pre .1) reconstruction (a .samples .now) (s .pre .2));
+          (t .ensures ∙ ap (λ (x : ℕ). touchedBy x (record { width = a .fields .width; height = a .fields .height; stride = a .fields .width }) (a .«record» .head)) (r .ensures .0) ∙ ap (λ (f : Fields). touchedBy (recordAt reconstruction (a .file .now) (a .at) (a .samples .now) .answer) (record { width = f .width; height = f .height; stride = f .width }) (a .«record» .head)) (s .pre .0) ∙ touched-head (a .file .now) (a .at) (s .pre .1) reconstruction (a .samples .now) (s .pre .2));
       answers-are = ap (set (a .answers .now) (a .tally .count)) (r .ensures .0);
       samples-are = r .ensures .1;
     }
