@@ -67,7 +67,8 @@ enum bracetwill_answer {
   BRACETWILL_ANSWER_TOO_LARGE = 13,
   BRACETWILL_ANSWER_LOSSLESS_BYTE = 14,
   BRACETWILL_ANSWER_REPORT = 15,
-  BRACETWILL_ANSWER_PLACE = 16
+  BRACETWILL_ANSWER_PLACE = 16,
+  BRACETWILL_ANSWER_ROOM = 17
 };
 
 /* An answer in words, the same that every other part of the product says; never NULL. */
@@ -90,6 +91,7 @@ static inline const char *bracetwill_answer_meaning(uint32_t answer) {
   case BRACETWILL_ANSWER_LOSSLESS_BYTE: return "VBK: a record's lossless byte above 1";
   case BRACETWILL_ANSWER_REPORT: return "the block takes the total of all counts past 4,294,967,295, or a class sum is above its count times 262,210";
   case BRACETWILL_ANSWER_PLACE: return "the place is at or past the block's end";
+  case BRACETWILL_ANSWER_ROOM: return "the buffer is too short for the file";
   default: return "no answer has this number";
   }
 }
@@ -227,6 +229,29 @@ uint32_t bracetwill_replay(const uint8_t *file, size_t file_len, uint16_t *sampl
 BRACETWILL_NODISCARD
 size_t bracetwill_blockrun(const uint8_t *file, size_t file_len, uint16_t *samples, size_t samples_len, uint8_t *answers,
                            size_t answers_len, uint8_t *out, size_t out_len);
+
+/* Writes a VBK file at the front of out: header, samples, and the records in the order given. One list for each number of a record, one
+ * entry a record; record k takes the next counts[k] of the tokens, row by row, which must be 16, 64, 256 or 1024 by its size:
+ *
+ *     record        0        1        2
+ *     xs         [  0   |    4   |    8  ]   uint16_t, and so ys, dcs, acs (the DC and AC quantizers)
+ *     sizes      [  0   |    1   |    0  ]   uint8_t, and so tx_types, lossless (0 or 1)
+ *     counts     [ 16   |   64   |   16  ]   uint32_t
+ *     tokens     [ t0 .. t15 | t16 .. t79 | t80 .. t95 ]   int32_t, all records' tokens one after another
+ *     samples    [ row 0 | row 1 | .. ]      uint16_t, width times height of them
+ *
+ * Done, the file's length is written to length[0], and the bytes of out past it stay. What reconstruction would refuse is written all the
+ * same: any place, type, quantizer and token. A file takes 10 + 2 * samples_len + 11 * xs_len + 4 * tokens_len bytes; a room of
+ * BRACETWILL_FILE_LIMIT bytes holds any. Answers 0, 1 (depth), 2 (a size above 3), 6 (samples_len is not width times height, a record's
+ * count is not that of its size, lists of records of different lengths, or counts that do not add up to tokens_len), 13 (width times
+ * height not 1 to 4096, or a file above BRACETWILL_FILE_LIMIT bytes), 14 (a lossless byte above 1), 17 (out is too short). */
+BRACETWILL_NODISCARD
+uint32_t bracetwill_vbk_write(uint8_t depth, uint16_t width, uint16_t height, const uint16_t *samples, size_t samples_len,
+                              const uint16_t *xs, size_t xs_len, const uint16_t *ys, size_t ys_len, const uint8_t *sizes,
+                              size_t sizes_len, const uint8_t *tx_types, size_t tx_types_len, const uint8_t *lossless,
+                              size_t lossless_len, const uint16_t *dcs, size_t dcs_len, const uint16_t *acs, size_t acs_len,
+                              const uint32_t *counts, size_t counts_len, const int32_t *tokens, size_t tokens_len, uint8_t *out,
+                              size_t out_len, size_t length[1]);
 
 #ifdef __cplusplus
 }

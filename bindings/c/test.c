@@ -839,12 +839,126 @@ static void records_answered(void) {
 }
 
 static void meanings(void) {
-  for (uint32_t k = 0; k <= BRACETWILL_ANSWER_PLACE; k++)
-    for (uint32_t j = 0; j <= BRACETWILL_ANSWER_PLACE + 1; j++) {
+  const char *none = bracetwill_answer_meaning(UINT32_MAX);
+  for (uint32_t k = 0; k <= BRACETWILL_ANSWER_ROOM; k++)
+    for (uint32_t j = 0; j <= BRACETWILL_ANSWER_ROOM + 1; j++) {
       const char *a = bracetwill_answer_meaning(k), *b = bracetwill_answer_meaning(j);
+      if (length(a) == length(none) && same(a, none, length(a))) continue; /* numbers may have gaps */
       const bool alike = length(a) == length(b) && same(a, b, length(a));
       check(alike == (k == j), "each number has its own meaning", k, j);
     }
+}
+
+/* A clip of two records, 4 by 4 and 8 by 8, between margins in the buffer. */
+struct writing {
+  uint8_t depth;
+  uint16_t width, height;
+  size_t samples_len, xs_len, ys_len, sizes_len, tx_types_len, lossless_len, dcs_len, acs_len, counts_len, tokens_len, out_len;
+};
+static uint16_t clip_samples[70000], clip_xs[20], clip_ys[20], clip_dcs[20], clip_acs[20];
+static uint8_t clip_sizes[20], clip_types[20], clip_lossless[20], clip_out[70000], clip_before[70000];
+static uint32_t clip_counts[20];
+static int32_t clip_tokens[20000];
+static size_t clip_length[3];
+enum { CLIP_BYTES = 10 + 2 * 6 + 11 * 2 + 4 * 80 };
+
+static struct writing clip(void) {
+  const struct writing c = {8, 3, 2, 6, 2, 2, 2, 2, 2, 2, 2, 2, 80, CLIP_BYTES};
+  for (size_t k = 0; k < 20; k++) {
+    clip_xs[k] = (uint16_t)(258 + k);
+    clip_ys[k] = 65535;
+    clip_sizes[k] = (uint8_t)(k % 2);
+    clip_types[k] = 9;
+    clip_lossless[k] = 1;
+    clip_dcs[k] = 0;
+    clip_acs[k] = 772;
+    clip_counts[k] = k % 2 ? 64 : 16;
+  }
+  for (size_t k = 0; k < 20000; k++) clip_tokens[k] = k % 2 ? -2 : 16909060;
+  for (size_t k = 0; k < 70000; k++) clip_samples[k] = (uint16_t)(k + 511);
+  for (size_t k = 0; k < sizeof clip_out; k++) clip_out[k] = 170;
+  clip_length[0] = clip_length[1] = clip_length[2] = 77;
+  return c;
+}
+
+static uint32_t clip_written(struct writing c) {
+  copy(clip_before, clip_out, sizeof clip_out);
+  return bracetwill_vbk_write(c.depth, c.width, c.height, clip_samples, c.samples_len, clip_xs, c.xs_len, clip_ys, c.ys_len, clip_sizes,
+                              c.sizes_len, clip_types, c.tx_types_len, clip_lossless, c.lossless_len, clip_dcs, c.dcs_len, clip_acs,
+                              c.acs_len, clip_counts, c.counts_len, clip_tokens, c.tokens_len, clip_out + 8, c.out_len, clip_length + 1);
+}
+
+static void clip_refused(struct writing c, uint32_t want, const char *what) {
+  equal(clip_written(c), want, what);
+  check(same(clip_out, clip_before, sizeof clip_out), what, -1, 0);
+  equal((long long)(clip_length[0] + clip_length[1] + clip_length[2]), 3 * 77, what);
+}
+
+/* Done: every byte, the length, what lies past; and the file runs. */
+static void clip_takes(void) {
+  struct writing c = clip();
+  c.out_len = CLIP_BYTES + 3;
+  equal(clip_written(c), BRACETWILL_ANSWER_DONE, "writing: done");
+  equal((long long)clip_length[1], CLIP_BYTES, "writing: length");
+  equal((long long)(clip_length[0] + clip_length[2]), 2 * 77, "writing: beside the length");
+  const uint8_t front[] = {'V', 'B', 'K', 1, 0, 8, 3, 0, 2, 0, 255, 1, 0, 2}, head[] = {2, 1, 255, 255, 0, 9, 1, 0, 0, 4, 3, 4, 3, 2, 1, 254, 255, 255, 255};
+  check(same(clip_out + 8, front, sizeof front), "writing: the header", -1, 0);
+  check(same(clip_out + 8 + 22, head, sizeof head), "writing: the first record", -1, 0);
+  for (size_t k = 0; k < 8; k++) equal(clip_out[k], 170, "writing: before the buffer");
+  for (size_t k = 8 + CLIP_BYTES; k < sizeof clip_out; k++) equal(clip_out[k], 170, "writing: past the file");
+  c = clip();
+  c.out_len = CLIP_BYTES;
+  equal(clip_written(c), BRACETWILL_ANSWER_DONE, "writing: a buffer that just holds it");
+}
+
+static void clip_refuses(void) {
+  struct writing c = clip();
+  c.depth = 9;
+  clip_refused(c, BRACETWILL_ANSWER_DEPTH, "writing: depth");
+  c = clip();
+  clip_sizes[1] = 4;
+  clip_refused(c, BRACETWILL_ANSWER_SIZE, "writing: size");
+  c = clip();
+  size_t *const lengths[] = {&c.samples_len, &c.xs_len, &c.ys_len, &c.sizes_len, &c.tx_types_len, &c.lossless_len, &c.dcs_len, &c.acs_len, &c.counts_len, &c.tokens_len};
+  for (size_t k = 0; k < sizeof lengths / sizeof *lengths; k++)
+    for (int more = 0; more <= 1; more++) {
+      c = clip();
+      *lengths[k] += more ? 1 : (size_t)-1;
+      clip_refused(c, BRACETWILL_ANSWER_LENGTH, "writing: one list shorter or longer");
+    }
+  c = clip();
+  clip_counts[0] = 64;
+  clip_counts[1] = 16;
+  clip_refused(c, BRACETWILL_ANSWER_LENGTH, "writing: counts of other sizes");
+  c = clip();
+  c.width = 0;
+  c.samples_len = 0;
+  clip_refused(c, BRACETWILL_ANSWER_TOO_LARGE, "writing: no sample");
+  c = clip();
+  c.width = 4097;
+  c.height = 1;
+  c.samples_len = 4097;
+  c.out_len = 65000;
+  clip_refused(c, BRACETWILL_ANSWER_TOO_LARGE, "writing: samples");
+  c = clip();
+  for (size_t k = 0; k < 16; k++) {
+    clip_sizes[k] = 3;
+    clip_counts[k] = 1024;
+  }
+  c.xs_len = c.ys_len = c.sizes_len = c.tx_types_len = c.lossless_len = c.dcs_len = c.acs_len = c.counts_len = 16;
+  c.tokens_len = 16384;
+  c.out_len = 69000;
+  clip_refused(c, BRACETWILL_ANSWER_TOO_LARGE, "writing: the file");
+  c = clip();
+  clip_lossless[1] = 2;
+  clip_refused(c, BRACETWILL_ANSWER_LOSSLESS_BYTE, "writing: lossless byte");
+  c = clip();
+  c.out_len = CLIP_BYTES - 1;
+  clip_refused(c, BRACETWILL_ANSWER_ROOM, "writing: the buffer");
+  c = clip();
+  c.out_len = 0;
+  clip_lossless[0] = 255;
+  clip_refused(c, BRACETWILL_ANSWER_LOSSLESS_BYTE, "writing: lossless byte before the buffer");
 }
 
 int main(void) {
@@ -871,6 +985,8 @@ int main(void) {
   rooms_refused();
   listing_runs();
   records_answered();
+  clip_takes();
+  clip_refuses();
   meanings();
   printf("%u passed, %u failed\n", passed, failed);
   return failed != 0;

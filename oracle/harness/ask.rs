@@ -213,6 +213,21 @@ pub fn ask(c: &Call) -> Outcome {
             }
             Outcome { nums: vec![answer.into(), rows as i128], lists: vec![block] }
         }
+        35 => {
+            let mut out = c.lists[10].clone();
+            let written = vbk::write(a(0) as u32, a(1) as u16, a(2) as u16, &c.lists[..10], out.len());
+            let (answer, file) = match written {
+                Ok(file) => (0, file),
+                Err(number) => (number, vec![]),
+            };
+            // what was written must read back, byte for byte
+            if answer == 0 {
+                assert_eq!(vbk::replay(&file).header, 0, "a written file is refused");
+            }
+            let length = file.len();
+            out.splice(..length, numbers(file));
+            Outcome { nums: vec![answer.into(), length as i128], lists: vec![out] }
+        }
         k => panic!("no kind {k}"),
     }
 }

@@ -3,7 +3,7 @@
 
 use crate::line::Call;
 use crate::rng::Rng;
-use crate::{files, rules};
+use crate::{files, rules, vbk};
 
 const ROUNDED: i64 = 1 << 62; // what Round2 takes
 const LEAF: i64 = 1 << 46; // operands of B, H, SB and the WHT
@@ -547,6 +547,196 @@ fn refused_report(r: &mut Rng, wanted: &[u8]) -> Call {
     c
 }
 
+/// Bytes that a line's written file may have.
+const LINE_WRITTEN: usize = 8_900;
+
+/// A file to be written: the header's numbers and the eleven lists of kind 35, the buffer last.
+struct Writing {
+    depth: i64,
+    width: i64,
+    height: i64,
+    lists: Vec<Vec<i64>>,
+}
+
+/// The places of lists among the eleven.
+const SAMPLES: usize = 0;
+const SIZES: usize = 3;
+const LOSSLESS: usize = 5;
+const COUNTS: usize = 8;
+const TOKENS: usize = 9;
+const OUT: usize = 10;
+
+impl Writing {
+    fn new(depth: i64, width: i64, height: i64) -> Self {
+        let mut lists = vec![vec![]; 11];
+        lists[SAMPLES] = vec![7; (width * height) as usize];
+        Writing { depth, width, height, lists }
+    }
+
+    /// A record of x, y, size, type, lossless, DC and AC, and its tokens.
+    fn record(&mut self, head: [i64; 7], tokens: Vec<i64>) {
+        for (k, v) in head.into_iter().enumerate() {
+            self.lists[1 + k].push(v);
+        }
+        self.lists[COUNTS].push(tokens.len() as i64);
+        self.lists[TOKENS].extend(tokens);
+    }
+
+    fn length(&self) -> usize {
+        10 + 2 * self.lists[SAMPLES].len() + 11 * self.lists[1].len() + 4 * self.lists[TOKENS].len()
+    }
+
+    /// The call with a buffer that is so much longer than the file.
+    fn call(mut self, more: i64) -> Call {
+        let room = (self.length() as i64 + more).max(0);
+        self.lists[OUT] = vec![170; room as usize];
+        call(35, vec![self.depth.into(), self.width.into(), self.height.into()], self.lists)
+    }
+}
+
+/// A token of any 32 bits: small ones, the ends, those around a byte's end.
+fn any_token(r: &mut Rng) -> i64 {
+    match r.below(4) {
+        0 => 0,
+        1 => r.range(-300, 300),
+        2 => r.pick(&[i64::from(i32::MIN), i64::from(i32::MAX), -1, 255, 256, 65_535, 65_536, 16_777_216, -256, -65_536]),
+        _ => r.range(i32::MIN.into(), i32::MAX.into()),
+    }
+}
+
+/// A file that is taken: any place, type and quantizers, those that reconstruction refuses too.
+fn good_writing(r: &mut Rng, least: u64) -> Writing {
+    loop {
+        let (w, h) = if r.once_in(60) { r.pick(&[(4_096, 1), (1, 4_096), (64, 64)]) } else { (r.range(1, 9), r.range(1, 9)) };
+        let mut c = Writing::new(r.pick(&DEPTHS).into(), w, h);
+        if w * h < 100 {
+            c.lists[SAMPLES].iter_mut().for_each(|s| *s = r.range(0, 65_535));
+        }
+        for _ in 0..least.max(r.below(5)) {
+            let size = r.pick(&[0, 0, 0, 1, 1, 2, 3]);
+            let any = |r: &mut Rng| r.pick(&[0, 1, 4, 255, 256, 65_535]);
+            let head = [any(r), any(r), size.into(), r.pick(&[0, 1, 2, 3, 4, 255]), r.range(0, 1), any(r), any(r)];
+            let tokens = if r.once_in(3) { vec![any_token(r); rules::area(size)] } else { (0..rules::area(size)).map(|_| any_token(r)).collect() };
+            c.record(head, tokens);
+        }
+        if c.length() <= LINE_WRITTEN {
+            return c;
+        }
+    }
+}
+
+fn writing(r: &mut Rng) -> Call {
+    let c = good_writing(r, 0);
+    let more = r.pick(&[0, 0, 1, 5, 40, -1, -1_000]);
+    c.call(more)
+}
+
+/// A file as the writer makes it: what is written has to run.
+pub fn written_file(r: &mut Rng) -> Vec<u8> {
+    let c = good_writing(r, 0);
+    vbk::write(c.depth as u32, c.width as u16, c.height as u16, &c.lists[..OUT], rules::FILE_MAX).expect("a file that is taken")
+}
+
+fn refused_writing(r: &mut Rng, wanted: &[u8]) -> Call {
+    let has = |a: u8| wanted.contains(&a);
+    let mut c = good_writing(r, 1);
+    let records = c.lists[1].len() as u64;
+    if has(13) {
+        match r.below(4) {
+            0 => (c.width, c.height) = r.pick(&[(0, 0), (0, 5), (7, 0)]),
+            1 => (c.width, c.height) = r.pick(&[(4_097, 1), (241, 17)]),
+            2 => (c.width, c.height) = (65_535, 65_535),
+            _ => (0..16).for_each(|_| c.record([1, 2, 3, 0, 0, 4, 5], vec![0; 1_024])),
+        }
+        // the samples that belong to it, but for the largest, which needs 6 besides
+        let area = c.width * c.height;
+        c.lists[SAMPLES] = vec![7; if area > 5_000 { 9 } else { area as usize }];
+        if area > 5_000 && !has(6) {
+            (c.width, c.height) = (0, 65_535);
+            c.lists[SAMPLES].clear();
+        }
+    }
+    let k = r.below(records) as usize;
+    if has(1) {
+        c.depth = r.pick(&[0, 7, 9, 11, 13, 255]);
+    }
+    if has(2) {
+        c.lists[SIZES][k] = r.pick(&[4, 5, 255]);
+    }
+    if has(14) {
+        c.lists[LOSSLESS][k] = r.pick(&[2, 3, 255]);
+    }
+    if has(6) {
+        let list = r.range(0, 8) as usize;
+        match r.below(5) {
+            0 => c.lists[SAMPLES].push(1),
+            1 if list > 0 => c.lists[list].push(0),
+            2 => {
+                let other = c.lists[COUNTS][k] + r.pick(&[-1, 1, 48, 4_294_967_000]);
+                c.lists[COUNTS][k] = other.min(u32::MAX.into());
+            }
+            3 => {
+                c.lists[TOKENS].pop();
+            }
+            _ => c.lists[TOKENS].push(0),
+        }
+    }
+    let length = c.length() as i64;
+    let more = if has(17) { r.pick(&[-1, -2, -length]) } else { r.pick(&[0, 1]) };
+    c.call(if length + more > LINE_WRITTEN as i64 { 3 - length } else { more })
+}
+
+/// Every list alone one longer and one shorter, every count one off, the file at its limit and past it, every room around the file's end.
+fn systematic_writing(out: &mut dyn FnMut(Call)) {
+    let plain = || {
+        let mut c = Writing::new(8, 3, 2);
+        c.record([1, 2, 0, 9, 1, 0, 65_535], (0..16).map(|k| k - 8).collect());
+        c.record([256, 65_535, 1, 3, 0, 1, 2], vec![-70_000; 64]);
+        c
+    };
+    for more in [-1_000, -1, 0, 1, 9] {
+        out(plain().call(more));
+    }
+    for list in 0..10 {
+        let mut c = plain();
+        c.lists[list].push(0);
+        out(c.call(0));
+        let mut c = plain();
+        c.lists[list].pop();
+        out(c.call(0));
+    }
+    // counts that only together are right
+    for (a, b) in [(64, 16), (15, 65), (17, 63), (80, 0), (0, 80)] {
+        let mut c = plain();
+        c.lists[COUNTS] = vec![a, b];
+        out(c.call(0));
+    }
+    for depth in 0..14 {
+        let mut c = plain();
+        c.depth = depth;
+        out(c.call(0));
+    }
+    for size in 0..6 {
+        let mut c = Writing::new(10, 1, 1);
+        c.record([0, 0, size, 0, 0, 1, 1], vec![1; rules::area(size.min(3) as u32)]);
+        out(c.call(0));
+    }
+    for lossless in 0..4 {
+        let mut c = plain();
+        c.lists[LOSSLESS][1] = lossless;
+        out(c.call(0));
+    }
+    for (w, h) in [(0, 0), (1, 0), (4_096, 1), (4_097, 1), (64, 64), (65, 64), (1, 1)] {
+        out(Writing::new(12, w, h).call(0));
+    }
+    // 15 blocks of 32 by 32 and a plane that makes 65,535 bytes and 65,537: taken by the limit (the room refuses), and past it
+    for samples in [1_960, 1_961] {
+        let mut c = Writing::new(8, samples, 1);
+        (0..15).for_each(|_| c.record([0, 0, 3, 0, 0, 1, 1], vec![0; 1_024]));
+        out(c.call(-60_000));
+    }
+}
+
 fn refused_recon(r: &mut Rng, wanted: &[u8]) -> Call {
     let has = |a: u8| wanted.contains(&a);
     let mut c = good_recon(r);
@@ -889,7 +1079,7 @@ pub fn example() -> Recon {
 // ---- the systematic part ----
 
 /// The numbers that a call can refuse with, in their order.
-pub const REFUSALS: [(u32, &[u8]); 10] = [
+pub const REFUSALS: [(u32, &[u8]); 11] = [
     (20, &[2, 3, 4, 6, 9]),
     (21, &[2, 3, 4, 6, 9]),
     (22, &[1, 2, 3, 4, 5, 6, 7, 8, 9]),
@@ -900,6 +1090,7 @@ pub const REFUSALS: [(u32, &[u8]); 10] = [
     (32, &[2, 6]),
     (33, &[1, 2, 5, 6, 16, 8, 9]),
     (34, &[2, 3, 4, 6, 9]),
+    (35, &[1, 2, 6, 13, 14, 17]),
 ];
 
 /// A call to which each of these numbers applies (3 and 4 never do together).
@@ -911,6 +1102,7 @@ pub fn refused(r: &mut Rng, kind: u32, wanted: &[u8]) -> Call {
         31 => refused_report(r, wanted),
         32 => refused_summary(r, wanted),
         33 => refused_replaced(r, wanted),
+        35 => refused_writing(r, wanted),
         _ => refused_quantize(r, kind, wanted),
     }
 }
@@ -1445,6 +1637,7 @@ pub fn systematic(r: &mut Rng, out: &mut dyn FnMut(Call)) {
     systematic_coder(out);
     systematic_report(r, out);
     systematic_rows(r, out);
+    systematic_writing(out);
     for (kind, numbers) in REFUSALS {
         sets(r, numbers, 5, &mut |r, wanted| out(refused(r, kind, wanted)));
     }
@@ -1466,7 +1659,7 @@ fn file(r: &mut Rng) -> Call {
 
 /// One random call. Most are of the calls that do the work.
 pub fn random(r: &mut Rng) -> Call {
-    match r.below(108) {
+    match r.below(110) {
         0 => round2(r),
         1 => brev(r),
         2 => call(r.pick(&[3, 4]), vec![angle(r)], vec![]),
@@ -1489,6 +1682,7 @@ pub fn random(r: &mut Rng) -> Call {
         95..=96 => row_summary(r),
         97..=99 => replaced(r),
         100..=102 => driver(r, 34),
+        103..=104 => writing(r),
         _ => {
             let (kind, numbers) = r.pick(&REFUSALS);
             let wanted: Vec<u8> = (0..r.range(1, 3)).map(|_| r.pick(numbers)).collect();

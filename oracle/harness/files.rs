@@ -1,6 +1,6 @@
 //! VBK files from a seed: whole, cut, damaged, too long; every header and record refusal alone and in pairs; bytes that are no file.
 
-use crate::cases::{BAD_TYPES, DEPTHS, Recon, beyond, example, fill, good_recon, samples, side, token_bound};
+use crate::cases::{self, BAD_TYPES, DEPTHS, Recon, beyond, example, fill, good_recon, samples, side, token_bound};
 use crate::line::Call;
 use crate::rng::Rng;
 use crate::rules;
@@ -71,6 +71,9 @@ fn any_record(r: &mut Rng, depth: u32, width: u64, height: u64, small: bool) -> 
 
 /// A file; `small` keeps it short enough for a line.
 pub fn random(r: &mut Rng, small: bool) -> Vec<u8> {
+    if r.once_in(12) {
+        return cases::written_file(r);
+    }
     let depth = r.pick(&DEPTHS);
     let (width, height) = match r.below(if small { 6 } else { 8 }) {
         0 => (1, 1),

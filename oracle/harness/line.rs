@@ -54,6 +54,9 @@ pub const SHAPES: &[Shape] = &[
     Shape { kind: 33, name: "replace_token", args: &["size", "place", "token", "dc", "ac", "depth"], lists: &["block", "summary"],
         nums: &["answer"], after: &[After::Lent(0), After::Lent(1)] },
     Shape { kind: 34, name: "inverse_transform_2d_rows", args: &["n", "type", "lossless"], lists: &["block"], nums: &["answer", "rows"], after: T },
+    Shape { kind: 35, name: "vbk_write", args: &["depth", "width", "height"],
+        lists: &["samples", "xs", "ys", "sizes", "types", "lossless", "dcs", "acs", "counts", "tokens", "out"],
+        nums: &["answer", "length"], after: &[After::Lent(10)] },
 ];
 
 pub fn shape(kind: u32) -> Option<&'static Shape> {

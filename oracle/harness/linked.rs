@@ -13,7 +13,7 @@ mod archive;
 use archive::*;
 
 /// The kinds that are exported.
-const KINDS: [u32; 12] = [20, 21, 22, 23, 24, 25, 26, 30, 31, 32, 33, 34];
+const KINDS: [u32; 13] = [20, 21, 22, 23, 24, 25, 26, 30, 31, 32, 33, 34, 35];
 
 const MARGIN: usize = 8;
 
@@ -135,6 +135,7 @@ fn ours(c: &Call) -> (Outcome, bool) {
             let count = if answer == 0 { rows.list()[0] } else { 0 };
             (Outcome { nums: vec![answer.into(), count.into()], lists: vec![l.list().to_vec()] }, kept)
         }
+        35 => ours_written(c),
         k => panic!("kind {k} is not exported"),
     }
 }
@@ -204,6 +205,66 @@ fn ours_replaced(c: &Call) -> (Outcome, bool) {
     };
     let lists = vec![block.list().to_vec(), wide(summary.list())];
     (Outcome { nums: vec![answer.into()], lists }, block.kept(block.len()) && summary.kept(1))
+}
+
+/// A file written; what is done must run as the reader of the oracle runs it.
+fn ours_written(c: &Call) -> (Outcome, bool) {
+    let a = |i: usize| c.args[i];
+    let two = |k: usize| Lent::new(c.lists[k].iter().map(|v| *v as u16), 54_321);
+    let one = |k: usize| Lent::new(c.lists[k].iter().map(|v| *v as u8), 0xa5);
+    let (mut samples, mut xs, mut ys, mut dcs, mut acs) = (two(0), two(1), two(2), two(6), two(7));
+    let (mut sizes, mut types, mut lossless, mut out) = (one(3), one(4), one(5), one(10));
+    let mut counts = Lent::new(c.lists[8].iter().map(|v| *v as u32), 0xa5a5_a5a5);
+    let mut tokens = Lent::new(c.lists[9].iter().map(|v| *v as i32), i32::MIN + 77);
+    let mut length = [77_777usize];
+    let answer = unsafe {
+        bracetwill_vbk_write(
+            a(0) as u8,
+            a(1) as u16,
+            a(2) as u16,
+            samples.at(),
+            samples.len(),
+            xs.at(),
+            xs.len(),
+            ys.at(),
+            ys.len(),
+            sizes.at(),
+            sizes.len(),
+            types.at(),
+            types.len(),
+            lossless.at(),
+            lossless.len(),
+            dcs.at(),
+            dcs.len(),
+            acs.at(),
+            acs.len(),
+            counts.at(),
+            counts.len(),
+            tokens.at(),
+            tokens.len(),
+            out.at(),
+            out.len(),
+            &mut length,
+        )
+    };
+    let two_kept = |l: &Lent<u16>, k: usize| l.kept(l.len()) && wide(l.list()) == c.lists[k];
+    let one_kept = |l: &Lent<u8>, k: usize| l.kept(l.len()) && wide(l.list()) == c.lists[k];
+    let kept = two_kept(&samples, 0)
+        && two_kept(&xs, 1)
+        && two_kept(&ys, 2)
+        && one_kept(&sizes, 3)
+        && one_kept(&types, 4)
+        && one_kept(&lossless, 5)
+        && two_kept(&dcs, 6)
+        && two_kept(&acs, 7)
+        && counts.kept(counts.len())
+        && wide(counts.list()) == c.lists[8]
+        && tokens.kept(tokens.len())
+        && wide(tokens.list()) == c.lists[9]
+        && out.kept(out.len());
+    // the length is written only where the call is done
+    let told = if answer == 0 { length[0] } else { length[0] - 77_777 };
+    (Outcome { nums: vec![answer.into(), told as i128], lists: vec![wide(out.list())] }, kept)
 }
 
 /// A run over a file, and its text, which must say the same.

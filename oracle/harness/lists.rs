@@ -59,6 +59,7 @@ fn class(c: &Call, o: &Outcome) -> Vec<i128> {
             set.dedup();
             std::iter::once(answer).chain(set.into_iter().map(i128::from)).collect()
         }
+        35 => vec![answer, c.lists[1].len() as i128],
         _ => vec![],
     }
 }
@@ -101,6 +102,8 @@ fn room(c: &Call, o: &Outcome) -> (usize, usize) {
             _ => (5_000, 2),
         },
         32..=34 => (300, 3),
+        35 if answer == 0 => (3_000, 8),
+        35 => (1_500, 3),
         20 | 21 => (300, 3),
         22 => (300, 2),
         23 if answer == 0 => (300, 150),
@@ -125,7 +128,11 @@ pub fn write_all(seed: u64, out: &mut dyn Write) {
                     let c = cases::refused(&mut r, kind, &[*a, *b]);
                     let o = ask::ask(&c);
                     let text = line::write(&c, &o);
-                    (o.nums[0] == i128::from(*a) && text.len() < if kind == 31 { 700 } else { 300 }).then_some(text)
+                    (o.nums[0] == i128::from(*a) && text.len() < match kind {
+                        31 => 700,
+                        35 => 1_500,
+                        _ => 300,
+                    }).then_some(text)
                 });
                 worked.entry(kind).or_default().extend(line);
             }

@@ -124,6 +124,55 @@ pub fn replay(file: &[u8]) -> Replay {
     Replay { header: 0, version, depth, width, height, answers, samples: plane.samples().to_vec(), touched }
 }
 
+/// The file that lent lists make, or the number that refuses them. The lists, one entry a record but for the first and the last: samples; x, y,
+/// size, type, lossless, DC, AC, how many tokens; all tokens.
+pub fn write(depth: u32, width: u16, height: u16, lists: &[Vec<i64>], room: usize) -> Result<Vec<u8>, u8> {
+    let [samples, xs, ys, sizes, types, lossless, dcs, acs, counts, tokens] = lists else { panic!("ten lists") };
+    if !rules::good_depth(depth) {
+        return Err(1);
+    }
+    if sizes.iter().any(|s| *s > 3) {
+        return Err(2);
+    }
+    let area = usize::from(width) * usize::from(height);
+    let even = [ys, sizes, types, lossless, dcs, acs, counts].iter().all(|l| l.len() == xs.len());
+    let brought = counts.iter().zip(sizes).all(|(c, s)| *c == rules::area(*s as u32) as i64);
+    if samples.len() != area || !even || !brought || counts.iter().sum::<i64>() != tokens.len() as i64 {
+        return Err(6);
+    }
+    let length = 10 + 2 * area + 11 * xs.len() + 4 * tokens.len();
+    if !(1..=rules::FILE_SAMPLES).contains(&area) || length > rules::FILE_MAX {
+        return Err(13);
+    }
+    if lossless.iter().any(|l| *l > 1) {
+        return Err(14);
+    }
+    if room < length {
+        return Err(17);
+    }
+    let mut file = b"VBK\x01\x00".to_vec();
+    let two = |file: &mut Vec<u8>, v: i64| file.extend((v as u16).to_le_bytes());
+    file.push(depth as u8);
+    two(&mut file, width.into());
+    two(&mut file, height.into());
+    for s in samples {
+        two(&mut file, *s);
+    }
+    let mut left = tokens.iter();
+    for k in 0..xs.len() {
+        two(&mut file, xs[k]);
+        two(&mut file, ys[k]);
+        file.extend([sizes[k] as u8, types[k] as u8, lossless[k] as u8]);
+        two(&mut file, dcs[k]);
+        two(&mut file, acs[k]);
+        for t in left.by_ref().take(counts[k] as usize) {
+            file.extend((*t as i32).to_le_bytes());
+        }
+    }
+    assert_eq!(file.len(), length);
+    Ok(file)
+}
+
 /// What the program `blockrun` prints for it.
 pub fn text(r: &Replay) -> String {
     use std::fmt::Write;

@@ -874,7 +874,10 @@ pub mod fwd_transform {
 
 /// Runs over VBK files.
 pub mod vbk {
-    use super::{Refusal, answer, archive};
+    use super::{Refusal, answer, archive, taken};
+
+    /// The longest VBK file: a buffer of so many bytes holds any.
+    pub const FILE_LIMIT: usize = 65535;
 
     // Rooms that hold what any file leaves.
     const SAMPLES_ROOM: usize = 4096;
@@ -896,6 +899,168 @@ pub mod vbk {
         pub answers: Vec<Result<(), Refusal>>,
         /// The touched count, the number behind `T` in the text: samples written.
         pub touched: u64,
+    }
+
+    /// A record of a file to be written, with the file's own widths.
+    #[derive(Debug, Clone, Copy, PartialEq, Eq)]
+    pub struct Record<'a> {
+        /// The block's column.
+        pub x: u16,
+        /// The block's row.
+        pub y: u16,
+        /// The size number, 0 to 3: 4 by 4 to 32 by 32.
+        pub size: u8,
+        /// The type; the file keeps that of a lossless record too.
+        pub tx_type: u8,
+        /// 1 where the block is lossless, and 0 where it is not.
+        pub lossless: u8,
+        /// The DC quantizer.
+        pub dc: u16,
+        /// The AC quantizer.
+        pub ac: u16,
+        /// 16, 64, 256 or 1,024 tokens by the size, row by row.
+        pub tokens: &'a [i32],
+    }
+
+    /// A VBK file to be written: a plane, and records in their order, in lists of its own. What a list holds is tested when it is written.
+    ///
+    /// ```
+    /// use bracetwill::vbk::{Clip, Record, replay};
+    ///
+    /// let mut clip = Clip::new(8, 4, 4, vec![100; 16]);
+    /// let mut tokens = [0; 16];
+    /// tokens[0] = 5;
+    /// clip.push(Record { x: 0, y: 0, size: 0, tx_type: 0, lossless: 1, dc: 4, ac: 4, tokens: &tokens });
+    /// let file = clip.try_bytes()?;
+    /// assert_eq!(file.len(), 10 + 2 * 16 + 11 + 4 * 16);
+    /// assert_eq!(replay(&file)?.samples[..4], [102, 101, 101, 101]);
+    /// # Ok::<(), bracetwill::Refusal>(())
+    /// ```
+    #[derive(Debug, Clone, PartialEq, Eq)]
+    pub struct Clip {
+        depth: u8,
+        width: u16,
+        height: u16,
+        samples: Vec<u16>,
+        xs: Vec<u16>,
+        ys: Vec<u16>,
+        sizes: Vec<u8>,
+        tx_types: Vec<u8>,
+        lossless: Vec<u8>,
+        dcs: Vec<u16>,
+        acs: Vec<u16>,
+        counts: Vec<u32>,
+        tokens: Vec<i32>,
+    }
+
+    impl Clip {
+        /// A file of this plane, with no record. `samples` are width × height, row by row.
+        ///
+        /// ```
+        /// let clip = bracetwill::vbk::Clip::new(8, 1, 1, vec![7]);
+        /// assert_eq!(clip.try_bytes().unwrap(), b"VBK\x01\x00\x08\x01\x00\x01\x00\x07\x00");
+        /// ```
+        pub fn new(depth: u8, width: u16, height: u16, samples: Vec<u16>) -> Self {
+            let (xs, ys, dcs, acs) = (vec![], vec![], vec![], vec![]);
+            let (sizes, tx_types, lossless) = (vec![], vec![], vec![]);
+            Clip { depth, width, height, samples, xs, ys, sizes, tx_types, lossless, dcs, acs, counts: vec![], tokens: vec![] }
+        }
+
+        /// One record more, behind the others. More than 4,294,967,295 tokens count as so many, which no size has.
+        ///
+        /// ```
+        /// use bracetwill::{Refusal, vbk::{Clip, Record}};
+        ///
+        /// let mut clip = Clip::new(8, 1, 1, vec![7]);
+        /// let record = Record { x: 0, y: 0, size: 0, tx_type: 9, lossless: 0, dc: 0, ac: 0, tokens: &[1; 15] };
+        /// clip.push(record);
+        /// assert_eq!(clip.try_bytes(), Err(Refusal::Length)); // 15 tokens, and size 0 has 16
+        /// ```
+        pub fn push(&mut self, record: Record) {
+            self.xs.push(record.x);
+            self.ys.push(record.y);
+            self.sizes.push(record.size);
+            self.tx_types.push(record.tx_type);
+            self.lossless.push(record.lossless);
+            self.dcs.push(record.dc);
+            self.acs.push(record.ac);
+            self.counts.push(record.tokens.len().try_into().unwrap_or(u32::MAX));
+            self.tokens.extend(record.tokens);
+        }
+
+        /// The file at the front of `out`; its length is handed back, and what lies past it stays. Refused with 1, 2, 6, 13, 14 or 17, and
+        /// then `out` is as it was.
+        ///
+        /// ```
+        /// use bracetwill::{Refusal, vbk::Clip};
+        ///
+        /// let clip = Clip::new(8, 1, 1, vec![7]);
+        /// let mut out = [9; 14];
+        /// assert_eq!(clip.try_write(&mut out), Ok(12));
+        /// assert_eq!(out[10..], [7, 0, 9, 9]);
+        /// assert_eq!(clip.try_write(&mut out[..11]), Err(Refusal::Room));
+        /// ```
+        pub fn try_write(&self, out: &mut [u8]) -> Result<usize, Refusal> {
+            let mut length = [0];
+            // SAFETY: each list is handed over with its own length; the buffer and the length, which are written, are apart from all others.
+            answer(unsafe {
+                archive::bracetwill_vbk_write(
+                    self.depth,
+                    self.width,
+                    self.height,
+                    self.samples.as_ptr(),
+                    self.samples.len(),
+                    self.xs.as_ptr(),
+                    self.xs.len(),
+                    self.ys.as_ptr(),
+                    self.ys.len(),
+                    self.sizes.as_ptr(),
+                    self.sizes.len(),
+                    self.tx_types.as_ptr(),
+                    self.tx_types.len(),
+                    self.lossless.as_ptr(),
+                    self.lossless.len(),
+                    self.dcs.as_ptr(),
+                    self.dcs.len(),
+                    self.acs.as_ptr(),
+                    self.acs.len(),
+                    self.counts.as_ptr(),
+                    self.counts.len(),
+                    self.tokens.as_ptr(),
+                    self.tokens.len(),
+                    out.as_mut_ptr(),
+                    out.len(),
+                    &mut length,
+                )
+            })?;
+            Ok(length[0])
+        }
+
+        /// [`try_write`](Clip::try_write); a refusal panics.
+        ///
+        /// ```
+        /// let mut out = [0; bracetwill::vbk::FILE_LIMIT];
+        /// assert_eq!(bracetwill::vbk::Clip::new(8, 2, 2, vec![7; 4]).write(&mut out), 18);
+        /// ```
+        #[track_caller]
+        pub fn write(&self, out: &mut [u8]) -> usize {
+            let result = self.try_write(out);
+            taken("vbk_write", result.map(|_| ()));
+            result.unwrap_or(0)
+        }
+
+        /// The file in a list of its own. Refused as [`try_write`](Clip::try_write) is, but never with 17.
+        ///
+        /// ```
+        /// use bracetwill::{Refusal, vbk::Clip};
+        /// assert_eq!(Clip::new(9, 1, 1, vec![7]).try_bytes(), Err(Refusal::Depth));
+        /// ```
+        pub fn try_bytes(&self) -> Result<Vec<u8>, Refusal> {
+            let mut out = vec![0; FILE_LIMIT];
+            let length = self.try_write(&mut out)?;
+            out.truncate(length);
+            Ok(out)
+        }
     }
 
     /// A run over the bytes of a VBK file. Refused with 1, 10, 11, 12 or 13, by its header.

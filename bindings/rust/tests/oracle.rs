@@ -251,6 +251,46 @@ fn file(c: &Call) -> bool {
     alike && bracetwill::vbk::blockrun(&bytes) == vbk::text(&want)
 }
 
+/// A file written, where the lists are those of records; and what was written, run. Other lists cannot be made of records.
+fn written(c: &Call) -> Option<bool> {
+    use bracetwill::vbk::{Clip, Record};
+    let list = |k: usize| &c.lists[k];
+    let n = list(1).len();
+    let even = (2..9).all(|k| list(k).len() == n) && list(8).iter().sum::<i64>() == list(9).len() as i64;
+    if !even {
+        return None;
+    }
+    let mut clip = Clip::new(c.args[0] as u8, c.args[1] as u16, c.args[2] as u16, list(0).iter().map(|s| *s as u16).collect());
+    let tokens: Vec<i32> = list(9).iter().map(|t| *t as i32).collect();
+    let mut from = 0;
+    for k in 0..n {
+        let count = list(8)[k] as usize;
+        clip.push(Record {
+            x: list(1)[k] as u16,
+            y: list(2)[k] as u16,
+            size: list(3)[k] as u8,
+            tx_type: list(4)[k] as u8,
+            lossless: list(5)[k] as u8,
+            dc: list(6)[k] as u16,
+            ac: list(7)[k] as u16,
+            tokens: &tokens[from..from + count],
+        });
+        from += count;
+    }
+    let lent: Vec<u8> = list(10).iter().map(|b| *b as u8).collect();
+    let (mut out, mut other) = (lent.clone(), lent.clone());
+    let got = clip.try_write(&mut out);
+    let panics = catch_unwind(AssertUnwindSafe(|| clip.write(&mut other)));
+    let want = vbk::write(c.args[0] as u32, c.args[1] as u16, c.args[2] as u16, &c.lists[..10], lent.len());
+    Some(match (got, want) {
+        (Ok(length), Ok(file)) => {
+            length == file.len() && out[..length] == file && out[length..] == lent[length..] && other == out && panics.ok() == Some(length) && clip.try_bytes() == Ok(file)
+        }
+        (Err(refusal), Err(number)) => refusal.number() == u32::from(number) && out == lent && other == lent && panics.is_err(),
+        _ => false,
+    })
+}
+
 /// The call's name, its answer by the rules, and whether all is alike; nothing for the parts under the public calls.
 fn compare(c: &Call) -> Option<(&'static str, bool)> {
     use bracetwill::fwd_transform as fwd;
@@ -311,6 +351,7 @@ fn compare(c: &Call) -> Option<(&'static str, bool)> {
         32 => summary(c),
         33 => replaced(c),
         34 => driver_rows(c),
+        35 => return written(c).map(|alike| (name, alike)),
         _ => return None,
     };
     Some((name, alike))
@@ -340,7 +381,7 @@ fn main() {
         println!("{name:<32} {a:>7} alike {b:>4} not");
         (same, differ) = (same + a, differ + b);
     }
-    assert_eq!(tally.len(), 12, "every public call is compared");
+    assert_eq!(tally.len(), 13, "every public call is compared");
     println!("{same} passed, {differ} failed");
     std::process::exit(i32::from(differ != 0));
 }

@@ -6,7 +6,7 @@ ghost use Rattle.answers.specs.Answers.{number};
 ghost use Rattle.answers.specs.Bad.{badDepth, badSize, badSide, badLossless, badTxType, anyBeyond};
 ghost use Rattle.answers.specs.Sizes.{side, area};
 
-// The answers of all calls and of the VBK reader, in the order of their numbers, 0 to 16.
+// The answers of all calls and of the VBK reader, in the order of their numbers, 0 to 17.
 pub enum Answer {
     Done,
     Depth,
@@ -25,6 +25,7 @@ pub enum Answer {
     LosslessByte,
     Report,
     Place,
+    Room,
 }
 
 // Magnitude of dequantized values, of the 2D driver's input and of the quantizer's.
@@ -70,6 +71,7 @@ pub fn code(a: Answer) -> u32
         Answer::LosslessByte => 14,
         Answer::Report => 15,
         Answer::Place => 16,
+        Answer::Room => 17,
     }
 }
 

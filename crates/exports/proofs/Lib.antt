@@ -1,2 +1,3 @@
 mod Figures
 mod Rows
+pub mod Written

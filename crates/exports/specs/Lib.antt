@@ -3,3 +3,4 @@ pub mod Run
 pub mod Report
 pub mod Rows
 pub mod Inner
+pub mod Write

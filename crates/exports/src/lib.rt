@@ -19,6 +19,7 @@ ghost use Rattle.fwd_transform.specs.ForwardWht.{whtAnswer, whtAfter};
 ghost use Rattle.fwd_transform.specs.Quantize.{answerOf as quantizeAnswer, coefsAfter};
 ghost use Rattle.vbk.specs.Promises.{Printed};
 ghost use Rattle.exports.specs.Told.{Told};
+ghost use Rattle.exports.specs.Write.{requestAnswer, bufferAfter};
 ghost use Rattle.exports.specs.Report.{lentAfter};
 ghost use Rattle.exports.specs.Rows.{askedAnswer, askedAfter, rowNumber, replacedAfter, countingAnswer, countingAfter};
 ghost use Rattle.exports.specs.Run.{FIGURES, RunTold};
@@ -335,4 +336,50 @@ pub extern "C" fn bracetwill_blockrun(
     ensures { λ r. ⌜ Printed (now (file .entry)) (now (samples .entry)) (now (answers .entry)) (now (out .entry)) r (now (samples .exit)) (now (answers .exit)) (now (out .exit)) ⌝ }
 {
     vbk::blockrun(file, samples, answers, out)
+}
+
+// A VBK file at the front of `out`, and its length in `length`. Refused, both are as they were.
+#[no_mangle]
+pub extern "C" fn bracetwill_vbk_write(
+    depth: u8,
+    width: u16,
+    height: u16,
+    samples: &[u16],
+    xs: &[u16],
+    ys: &[u16],
+    sizes: &[u8],
+    tx_types: &[u8],
+    lossless: &[u8],
+    dcs: &[u16],
+    acs: &[u16],
+    counts: &[u32],
+    tokens: &[i32],
+    out: &mut [u8],
+    length: &mut [usize; 1],
+) -> u32
+    ensures { λ r. ⌜ Told requestAnswer bufferAfter (record { lent = record { depth = depth; width = width; height = height; samples = now (samples .entry); xs = now (xs .entry); ys = now (ys .entry); sizes = now (sizes .entry); tx-types = now («tx_types» .entry); lossless = now (lossless .entry); dcs = now (dcs .entry); acs = now (acs .entry); counts = now (counts .entry); tokens = now (tokens .entry) }; out = now (out .entry); size = now (length .entry) }) r (record { out = now (out .exit); size = now (length .exit) }) ⌝ }
+{
+    let written = vbk_write::vbk_write(
+        depth,
+        width,
+        height,
+        samples,
+        xs,
+        ys,
+        sizes,
+        tx_types,
+        lossless,
+        dcs,
+        acs,
+        counts,
+        tokens,
+        out,
+    );
+    let answer = written.answer;
+    let number = answers::code(answer);
+    if number != 0 {
+        return number;
+    }
+    length[0] = written.length;
+    number
 }

@@ -1,2 +1,2 @@
-mod Negative
+pub mod Negative
 mod Narrow

@@ -10,10 +10,10 @@ use Rattle.whole.proofs.Ring.{at, neg, _⊖_, sfits-by}
 use Rattle.whole.proofs.Parts.{zero-minus}
 
 module _ (n : ℕ) (h : n < 2 ^ 63) where
-  turned : pos 0 -ℤ toZ w64 n ≡ negℤ (pos n)
+  pub turned : pos 0 -ℤ toZ w64 n ≡ negℤ (pos n)
   turned = rw (toZ-pos w64 n h) (zero-minus (pos n))
 
-  turned-fits : SFits w64 (negℤ (pos n))
+  pub turned-fits : SFits w64 (negℤ (pos n))
   turned-fits = sfits-by w64 (neg (at (pos n))) (omega arith) (omega arith)
 
   pub neg-fits : SFits w64 (pos 0 -ℤ toZ w64 n)

@@ -6,3 +6,5 @@ pub mod Report
 pub mod Files
 pub mod Unique
 pub mod Numbers
+pub mod Write
+pub mod Played

@@ -27,6 +27,9 @@ use Rattle.vbk_read.specs.declared.Record.{Record}
 use Rattle.vbk_read.specs.declared.Reader.{Reader}
 use Rattle.vbk.specs.Promises.{Replayed, Printed}
 use Rattle.vbk.specs.declared.Run.{Run}
+use Rattle.vbk_write.specs.Lent.{Lent}
+use Rattle.vbk_write.specs.Promises.{Wrote}
+use Rattle.vbk_write.specs.declared.Written.{Written}
 use Rattle.exports.specs.Told.{Told}
 use Rattle.exports.specs.Rows.{rowNumber}
 use Rattle.exports.specs.Run.{RunTold}
@@ -142,7 +145,14 @@ pub blockrun-unique : (s samples answers out : List ℕ) (r t : ℕ) (p₁ p₂ 
 blockrun-unique s samples answers out r t p₁ p₂ a₁ a₂ o₁ o₂ p q =
     (same (p .length-is) (q .length-is), same (p .samples-are) (q .samples-are), same (p .answers-are) (q .answers-are), same (p .text-is) (q .text-is))
 
--- `bracetwill_inverse_transform_2d`, its reference, `bracetwill_inverse_transform_2d_rows`, `bracetwill_row_summary`, `bracetwill_replace_token`, `bracetwill_reconstruct_block`, `bracetwill_reconstruct_block_report`, `bracetwill_forward_wht_2d`, `bracetwill_quantize_block_tx` and `bracetwill_quantize_block`
+-- `vbk_write`
+pub write-unique : (l : Lent) (out : List ℕ) (r t : Written) (o₁ o₂ : List ℕ) → Wrote l out r o₁ → Wrote l out t o₂ → (r ≡ t) × (o₁ ≡ o₂)
+write-unique l out r t o₁ o₂ p q =
+    let a = same-answer _ (r .answer) (t .answer) (p .answered) (q .answered) in
+    let n = same (p .length-is) (q .length-is) in
+    (ap (λ x. record { answer = x; length = r .length }) a ∙ ap (λ x. record { answer = t .answer; length = x }) n, same (p .out-is) (q .out-is))
+
+-- `bracetwill_inverse_transform_2d`, its reference, `bracetwill_inverse_transform_2d_rows`, `bracetwill_row_summary`, `bracetwill_replace_token`, `bracetwill_reconstruct_block`, `bracetwill_reconstruct_block_report`, `bracetwill_forward_wht_2d`, `bracetwill_quantize_block_tx`, `bracetwill_quantize_block` and `bracetwill_vbk_write`
 pub told-unique : {Given Lent : Type 0} (answer : Given → ℕ) (after : Given → Lent) (u : Given) (r t : ℕ) (k l : Lent) → Told answer after u r k
     → Told answer after u t l → (r ≡ t) × (k ≡ l)
 told-unique answer after u r t k l p q = (same (p .answered) (q .answered), same (p .written) (q .written))

@@ -2,9 +2,10 @@
 use mathlib.Core.Path.{_≡_}
 use mathlib.Core.Bool.{Bool, true, false}
 use mathlib.Core.List.{List}
-use Prim.Native.Nat.{ℕ, _*_, _≤_, _<_}
+use Prim.Native.Nat.{ℕ, _+_, _*_, _≤_, _<_}
 use lib.IntN.{ℤ, pos, natAbs}
-use lib.ListN.{getD}
+use lib.ListN.{length, getD}
+use Rattle.answers.specs.Sizes.{area}
 
 -- 1: bit depth is not 8, 10 or 12
 pub record NoDepth (depth : ℕ) : Type 0 where
@@ -37,3 +38,15 @@ pub record SumBeyond (counts sums : List ℕ) : Type 0 where
   pub place : ℕ
   pub listed : place < 44
   pub beyond : getD counts place 0 * 262210 < getD sums place 0
+
+-- 2 and 14, of a file to be written: one number of the list is above m
+pub record SomeAbove (m : ℕ) (l : List ℕ) : Type 0 where
+  pub place : ℕ
+  pub listed : place < length l
+  pub above : m < getD l place 0
+
+-- 6, of a file to be written: one record brings another number of tokens than its size has, n0²
+pub record OtherCount (sizes counts : List ℕ) : Type 0 where
+  pub place : ℕ
+  pub listed : place < length counts
+  pub other : getD counts place 0 ≡ area (getD sizes place 0 + 2) → ⊥

@@ -2,3 +2,4 @@ pub mod Exactly
 pub mod Conditions
 pub mod When
 pub mod Numbers
+pub mod Played

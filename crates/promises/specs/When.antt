@@ -17,7 +17,8 @@ use Rattle.vbk_read.specs.Bytes.{le1}
 use Rattle.vbk_read.specs.Header.{HEADER_BYTES, versionOf, depthOf, planeArea, firstRecord}
 use Rattle.vbk_read.specs.Records.{HEAD_BYTES, sizeAt, losslessAt, nextAt}
 use Rattle.vbk.specs.Replay.{RECORD_LIMIT}
-use Rattle.promises.specs.Conditions.{NoDepth, LosslessAt, NoTxType, NoQuantizer, SomeBeyond, SumBeyond}
+use Rattle.vbk_write.specs.Lent.{Lent, Alike, tokensBefore, fileOf}
+use Rattle.promises.specs.Conditions.{NoDepth, LosslessAt, NoTxType, NoQuantizer, SomeBeyond, SumBeyond, SomeAbove, OtherCount}
 
 -- the 2D driver and the reference driver; the size number is n − 2
 pub data Driver (u : D.Input) : ℕ → Type 0 where
@@ -127,3 +128,17 @@ pub data Run (s samples answers : List ℕ) : ℕ → Type 0 where
 -- the number of each step of a run, 0 for none
 abbrev pub runNumbers : List ℕ
 runNumbers = 0 ∷ 6 ∷ 13 ∷ 12 ∷ 10 ∷ 11 ∷ 1 ∷ 13 ∷ 12 ∷ []
+
+-- a VBK file to be written
+pub data Write (l : Lent) (room : ℕ) : ℕ → Type 0 where
+  depth : NoDepth (l .depth) → Write l room 1
+  size : SomeAbove 3 (l .sizes) → Write l room 2
+  samples : (length (l .samples) ≡ l .width * l .height → ⊥) → Write l room 6
+  lists : (Alike l → ⊥) → Write l room 6
+  count : OtherCount (l .sizes) (l .counts) → Write l room 6
+  sum : (tokensBefore (l .counts) (length (l .counts)) ≡ length (l .tokens) → ⊥) → Write l room 6
+  empty : l .width * l .height ≡ 0 → Write l room 13
+  wide : AREA_LIMIT < l .width * l .height → Write l room 13
+  long : FILE_LIMIT < length (fileOf l) → Write l room 13
+  lossless : SomeAbove 1 (l .lossless) → Write l room 14
+  short : room < length (fileOf l) → Write l room 17

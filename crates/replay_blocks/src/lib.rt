@@ -55,7 +55,7 @@ fn signed8(x: u8) -> i64 {
 }
 
 // So many numbers as samples; how many were stored: none where there is no room or one is not a u16.
-fn to_samples(numbers: &[i64], count: usize, into: &mut [u16]) -> usize
+pub fn to_samples(numbers: &[i64], count: usize, into: &mut [u16]) -> usize
     ensures { λ r. ⌜ r ≤ length (now (into .exit)) ⌝ }
 {
     if numbers.len() < count {
@@ -81,7 +81,7 @@ fn to_samples(numbers: &[i64], count: usize, into: &mut [u16]) -> usize
 }
 
 // So many numbers as bytes; how many were stored: none where there is no room or one is not a u8.
-fn to_bytes(numbers: &[i64], count: usize, into: &mut [u8]) -> usize
+pub fn to_bytes(numbers: &[i64], count: usize, into: &mut [u8]) -> usize
     ensures { λ r. ⌜ r ≤ length (now (into .exit)) ⌝ }
 {
     if numbers.len() < count {
@@ -120,7 +120,7 @@ fn from_samples(samples: &[u16], count: usize, into: &mut [i64])
 }
 
 // So many bytes as numbers.
-fn from_bytes(bytes: &[u8], count: usize, into: &mut [i64])
+pub fn from_bytes(bytes: &[u8], count: usize, into: &mut [i64])
     requires { ⌜ (count ≤ length (now bytes)) × (count ≤ length (now into)) ⌝ }
     ensures { λ _. ⌜ count ≤ length (now (into .exit)) ⌝ }
 {

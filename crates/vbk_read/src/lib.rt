@@ -239,7 +239,7 @@ pub fn plane_area(width: u16, height: u16) -> usize
 }
 
 // Width × height is not 1 to 4,096.
-fn bad_area(area: usize) -> bool
+pub fn bad_area(area: usize) -> bool
     ensures { λ r. ⌜ r ≡ badArea area ⌝ }
 {
     if area == 0 {

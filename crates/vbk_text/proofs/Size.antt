@@ -30,6 +30,16 @@ ten m k short n h = go (ltb n 10) refl
 five : (n : ℕ) → n < 100000 → length (decimal n) ≤ 5
 five = ten 10000 4 (ten 1000 3 (ten 100 2 (ten 10 1 one)))
 
+ten-digits : (n : ℕ) → n < 10000000000 → length (decimal n) ≤ 10
+ten-digits = ten 1000000000 9 (ten 100000000 8 (ten 10000000 7 (ten 1000000 6 (ten 100000 5 five))))
+
+fifteen : (n : ℕ) → n < 1000000000000000 → length (decimal n) ≤ 15
+fifteen = ten 100000000000000 14 (ten 10000000000000 13 (ten 1000000000000 12 (ten 100000000000 11 (ten 10000000000 10 ten-digits))))
+
+-- every number of 64 bits
+pub twenty : (n : ℕ) → n < 100000000000000000000 → length (decimal n) ≤ 20
+twenty = ten 10000000000000000000 19 (ten 1000000000000000000 18 (ten 100000000000000000 17 (ten 10000000000000000 16 (ten 1000000000000000 15 fifteen))))
+
 pub word-short : (n : ℕ) → n < 100000 → length (word n) ≤ 6
 unfolding word
 word-short n h = omega (arith, five n h)

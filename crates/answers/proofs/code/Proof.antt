@@ -1,33 +1,8 @@
-use mathlib.Core.Path.{_≡_, refl, sym, _∙_}
-use denote.Enum.Declared.{tagOf}
 use borrow.Author.Needs.{needs}
-use Rattle.answers.specs.declared.Answer.{Answer}
-use Rattle.answers.specs.declared.Answer.the-variants.{Done, Depth, Size, LosslessSize, TxType, Quantizer, Length, Plane, Token, Coefficient, Mark, Version, CutShort, TooLarge, LosslessByte, Report, Place}
-use Rattle.answers.specs.Answers.{number}
-use Rattle.answers.proofs.Answer.{the-type}
 use Rattle.answers.proofs.code.Statement.{statement}
 use Rattle.answers.proofs.code.Tie as tie
 
--- the place of an answer among the variants is its number
-tag : (a : Answer) → tagOf the-type a ≡ number a
-tag Done = refl
-tag Depth = refl
-tag Size = refl
-tag LosslessSize = refl
-tag TxType = refl
-tag Quantizer = refl
-tag Length = refl
-tag Plane = refl
-tag Token = refl
-tag Coefficient = refl
-tag Mark = refl
-tag Version = refl
-tag CutShort = refl
-tag TooLarge = refl
-tag LosslessByte = refl
-tag Report = refl
-tag Place = refl
-
+-- each arm: the answer is its variant
 pub code-spec : {M : Type 1} → statement M
 code-spec =
     tie.close
@@ -49,20 +24,22 @@ code-spec =
     (λ c. search needs)
     (λ c. search needs)
     (λ c. search needs)
-    (λ c. sym (c .before .match .keys1) ∙ tag (c .before .before .args .a))
-    (λ c. sym (c .before .match .keys2) ∙ tag (c .before .before .args .a))
-    (λ c. sym (c .before .match .keys3) ∙ tag (c .before .before .args .a))
-    (λ c. sym (c .before .match .keys4) ∙ tag (c .before .before .args .a))
-    (λ c. sym (c .before .match .keys5) ∙ tag (c .before .before .args .a))
-    (λ c. sym (c .before .match .keys6) ∙ tag (c .before .before .args .a))
-    (λ c. sym (c .before .match .keys7) ∙ tag (c .before .before .args .a))
-    (λ c. sym (c .before .match .keys8) ∙ tag (c .before .before .args .a))
-    (λ c. sym (c .before .match .keys9) ∙ tag (c .before .before .args .a))
-    (λ c. sym (c .before .match .keys10) ∙ tag (c .before .before .args .a))
-    (λ c. sym (c .before .match .keys11) ∙ tag (c .before .before .args .a))
-    (λ c. sym (c .before .match .keys12) ∙ tag (c .before .before .args .a))
-    (λ c. sym (c .before .match .keys13) ∙ tag (c .before .before .args .a))
-    (λ c. sym (c .before .match .keys14) ∙ tag (c .before .before .args .a))
-    (λ c. sym (c .before .match .keys15) ∙ tag (c .before .before .args .a))
-    (λ c. sym (c .before .match .keys16) ∙ tag (c .before .before .args .a))
-    (λ c. sym (c .before .match .keys17) ∙ tag (c .before .before .args .a)))
+    (λ c. search needs)
+    (λ c. rw (c .enum-told .given .1))
+    (λ c. rw (c .enum-told2 .given .1))
+    (λ c. rw (c .enum-told3 .given .1))
+    (λ c. rw (c .enum-told4 .given .1))
+    (λ c. rw (c .enum-told5 .given .1))
+    (λ c. rw (c .enum-told6 .given .1))
+    (λ c. rw (c .enum-told7 .given .1))
+    (λ c. rw (c .enum-told8 .given .1))
+    (λ c. rw (c .enum-told9 .given .1))
+    (λ c. rw (c .enum-told10 .given .1))
+    (λ c. rw (c .enum-told11 .given .1))
+    (λ c. rw (c .enum-told12 .given .1))
+    (λ c. rw (c .enum-told13 .given .1))
+    (λ c. rw (c .enum-told14 .given .1))
+    (λ c. rw (c .enum-told15 .given .1))
+    (λ c. rw (c .enum-told16 .given .1))
+    (λ c. rw (c .enum-told17 .given .1))
+    (λ c. rw (c .enum-told18 .given .1)))

@@ -1,0 +1,1122 @@
+// A clip's text (docs/REFERENCE.md) read into the lists of a file, row by row. What is wrong is kept in the state.
+ghost use mathlib.Core.Path.{_≡_};
+ghost use Prim.Native.Nat.{_+_, _*_, _≤_, _<_};
+ghost use lib.ListN.{length};
+ghost use Rattle.clip_parse.specs.Rows.{letterRow, lineAfter};
+ghost use Rattle.clip_parse.specs.Inner.{Held};
+use clip_rows::Field;
+use clip_rows::Number;
+use clip_told::ABOVE;
+use clip_told::AREA;
+use clip_told::BELOW;
+use clip_told::DEPTH;
+use clip_told::EMPTY;
+use clip_told::FILE_LENGTH;
+use clip_told::HEADER_LATE;
+use clip_told::HEADER_ROW;
+use clip_told::NO_HEADER;
+use clip_told::NO_RECORD;
+use clip_told::NO_ROW;
+use clip_told::NOT_A_NUMBER;
+use clip_told::NOTHING;
+use clip_told::RECORD_ROW;
+use clip_told::RUN_COUNT;
+use clip_told::SAMPLE_COUNT;
+use clip_told::SAMPLE_ROW;
+use clip_told::SAMPLES_LATE;
+use clip_told::State;
+use clip_told::TOKEN_COUNT;
+use clip_told::TOKEN_ROW;
+use clip_told::TOO_FEW;
+use clip_told::TOO_MANY;
+use clip_told::TWO_HEADERS;
+use clip_told::UNKNOWN_ROW;
+
+// A place in a row, past a number that was read; or what is wrong with the field there.
+struct Place {
+    at: usize,
+    column: u64,
+    wrong: u8,
+    from: usize,
+    to: usize,
+    limit: u64,
+    value: u64,
+}
+
+// What the header says, and the place past its numbers.
+struct Size {
+    depth: u8,
+    width: u16,
+    height: u16,
+    place: Place,
+}
+
+// Where a record's block lies and how large it is, and the place past these numbers.
+struct Corner {
+    x: u16,
+    y: u16,
+    size: u8,
+    place: Place,
+}
+
+// The numbers of a record before its tokens, and the place past them.
+struct Head {
+    x: u16,
+    y: u16,
+    size: u8,
+    tx_type: u8,
+    lossless: u8,
+    dc: u16,
+    ac: u16,
+    place: Place,
+}
+
+// A record that began, or what is wrong with it, and the place of its first token.
+struct Begun {
+    state: State,
+    at: usize,
+}
+
+// A field that is a number, or COUNT*VALUE: what is wrong with it or its count, and the value.
+struct Run {
+    wrong: u8,
+    count: u64,
+    number: Number,
+}
+
+// So many samples of this value; or what is wrong, and the limit that it is past.
+struct Samples {
+    wrong: u8,
+    limit: u64,
+    count: u64,
+    value: u16,
+}
+
+// So many tokens of this value; or what is wrong, and the limit that it is past.
+struct Tokens {
+    wrong: u8,
+    limit: u64,
+    count: u64,
+    value: i32,
+}
+
+// a + b, or the greatest number.
+fn plus(a: u64, b: u64) -> u64 {
+    if 18446744073709551615 - a < b {
+        return 18446744073709551615;
+    }
+    a + b
+}
+
+fn least(a: u64, b: u64) -> u64
+    ensures { λ r. ⌜ (r ≤ a) × (r ≤ b) ⌝ }
+{
+    if a < b {
+        return a;
+    }
+    b
+}
+
+// Nothing is read yet.
+fn nothing() -> State
+    ensures { λ r. ⌜ Held r ⌝ }
+{
+    State {
+        line: 0,
+        row: NO_ROW,
+        wrong: NOTHING,
+        column: 0,
+        from: 0,
+        to: 0,
+        limit: 0,
+        header_line: 0,
+        depth: 0,
+        width: 0,
+        height: 0,
+        samples: 0,
+        met: 0,
+        records: 0,
+        record_line: 0,
+        size: 0,
+        start: 0,
+        need: 0,
+        given: 0,
+        length: 0,
+    }
+}
+
+fn fail(s: State, wrong: u8) -> State
+    requires { ⌜ Held s ⌝ }
+    ensures { λ r. ⌜ Held r ⌝ }
+{
+    let mut t = s;
+    t.wrong = wrong;
+    t
+}
+
+// What is wrong with a number of the header or of a record.
+fn fail_at(s: State, p: Place) -> State
+    requires { ⌜ Held s ⌝ }
+    ensures { λ r. ⌜ Held r ⌝ }
+{
+    let mut t = s;
+    t.wrong = p.wrong;
+    t.column = p.column;
+    t.from = p.from;
+    t.to = p.to;
+    t.limit = p.limit;
+    t
+}
+
+// What is wrong with a field of samples or tokens.
+fn fail_field(s: State, column: u64, f: Field, wrong: u8, limit: u64) -> State
+    requires { ⌜ Held s ⌝ }
+    ensures { λ r. ⌜ Held r ⌝ }
+{
+    let mut t = s;
+    t.wrong = wrong;
+    t.column = column;
+    t.from = f.from;
+    t.to = f.to;
+    t.limit = limit;
+    t
+}
+
+// What is wrong, with the number to tell beside it.
+pub fn fail_with(s: State, wrong: u8, limit: u64) -> State
+    requires { ⌜ Held s ⌝ }
+    ensures { λ r. ⌜ Held r ⌝ }
+{
+    let mut t = s;
+    t.wrong = wrong;
+    t.limit = limit;
+    t
+}
+
+// The place at which a row's numbers begin.
+fn first_place(at: usize) -> Place
+    ensures { λ r. ⌜ r .at ≡ at ⌝ }
+{
+    Place {
+        at,
+        column: 1,
+        wrong: NOTHING,
+        from: at,
+        to: at,
+        limit: 0,
+        value: 0,
+    }
+}
+
+// The same place, with what is wrong with the field there.
+fn wrong_place(p: Place, from: usize, to: usize, wrong: u8, limit: u64) -> Place
+    ensures { λ r. ⌜ (r .at ≡ p .at) × (r .value ≡ 0) ⌝ }
+{
+    Place {
+        at: p.at,
+        column: plus(p.column, 1),
+        wrong,
+        from,
+        to,
+        limit,
+        value: 0,
+    }
+}
+
+// A place with something wrong stays, and has no value.
+fn same_place(p: Place) -> Place
+    ensures { λ r. ⌜ (r .at ≡ p .at) × (r .value ≡ 0) ⌝ }
+{
+    let mut q = p;
+    q.value = 0;
+    q
+}
+
+// The number from 0 to `high` in the field at a place.
+fn read_unsigned(text: &[u8], end: usize, p: Place, high: u64) -> Place
+    requires { ⌜ (p .at ≤ end) × (end ≤ length (now text)) ⌝ }
+    ensures { λ r. ⌜ (r .at ≤ end) × (r .value ≤ high) ⌝ }
+{
+    if p.wrong != NOTHING {
+        return same_place(p);
+    }
+    let at = p.at;
+    if end <= at {
+        return wrong_place(p, at, at, TOO_FEW, 0);
+    }
+    let f = clip_rows::next_field(text, at, end);
+    let from = f.from;
+    let to = f.to;
+    if from == to {
+        return wrong_place(p, from, to, EMPTY, 0);
+    }
+    let n = clip_rows::read_number(text, from, to);
+    if !n.good {
+        return wrong_place(p, from, to, NOT_A_NUMBER, 0);
+    }
+    if n.minus {
+        return wrong_place(p, from, to, BELOW, 0);
+    }
+    if high < n.value {
+        return wrong_place(p, from, to, ABOVE, high);
+    }
+    Place {
+        at: f.next,
+        column: plus(p.column, 1),
+        wrong: NOTHING,
+        from,
+        to,
+        limit: high,
+        value: n.value,
+    }
+}
+
+// What is wrong with the count of a run.
+fn judge_count(n: Number) -> u8 {
+    if !n.good {
+        return NOT_A_NUMBER;
+    }
+    if n.minus {
+        return RUN_COUNT;
+    }
+    if n.value == 0 {
+        return RUN_COUNT;
+    }
+    if 65535 < n.value {
+        return RUN_COUNT;
+    }
+    NOTHING
+}
+
+// A field of samples or tokens.
+fn read_run(text: &[u8], from: usize, to: usize) -> Run
+    requires { ⌜ (from ≤ to) × (to ≤ length (now text)) ⌝ }
+{
+    let middle = clip_rows::star(text, from, to);
+    if middle == to {
+        let number = clip_rows::read_number(text, from, to);
+        let mut wrong = NOTHING;
+        if from == to {
+            wrong = EMPTY;
+        }
+        return Run {
+            wrong,
+            count: 1,
+            number,
+        };
+    }
+    let count = clip_rows::read_number(text, from, middle);
+    let number = clip_rows::read_number(text, middle + 1, to);
+    Run {
+        wrong: judge_count(count),
+        count: count.value,
+        number,
+    }
+}
+
+// No samples, for what is wrong.
+fn no_samples(wrong: u8, limit: u64) -> Samples {
+    Samples {
+        wrong,
+        limit,
+        count: 0,
+        value: 0,
+    }
+}
+
+// A field of samples: 0 to 65,535.
+fn read_samples(text: &[u8], from: usize, to: usize) -> Samples
+    requires { ⌜ (from ≤ to) × (to ≤ length (now text)) ⌝ }
+{
+    let run = read_run(text, from, to);
+    if run.wrong != NOTHING {
+        return no_samples(run.wrong, 0);
+    }
+    let n = run.number;
+    if !n.good {
+        return no_samples(NOT_A_NUMBER, 0);
+    }
+    if n.minus {
+        return no_samples(BELOW, 0);
+    }
+    let value = n.value;
+    if 65535 < value {
+        return no_samples(ABOVE, 65535);
+    }
+    Samples {
+        wrong: NOTHING,
+        limit: 0,
+        count: run.count,
+        value: value as u16,
+    }
+}
+
+// No tokens, for what is wrong.
+fn no_tokens(wrong: u8, limit: u64) -> Tokens {
+    Tokens {
+        wrong,
+        limit,
+        count: 0,
+        value: 0,
+    }
+}
+
+// Minus a magnitude.
+fn negative(value: u64) -> i32
+    requires { ⌜ value ≤ 2147483648 ⌝ }
+{
+    let v = -(value as i64);
+    v as i32
+}
+
+// A field of tokens: numbers of 32 bits with a sign.
+fn read_tokens(text: &[u8], from: usize, to: usize) -> Tokens
+    requires { ⌜ (from ≤ to) × (to ≤ length (now text)) ⌝ }
+{
+    let run = read_run(text, from, to);
+    if run.wrong != NOTHING {
+        return no_tokens(run.wrong, 0);
+    }
+    let n = run.number;
+    if !n.good {
+        return no_tokens(NOT_A_NUMBER, 0);
+    }
+    let value = n.value;
+    if n.minus {
+        if 2147483648 < value {
+            return no_tokens(BELOW, 2147483648);
+        }
+        return Tokens {
+            wrong: NOTHING,
+            limit: 0,
+            count: run.count,
+            value: negative(value),
+        };
+    }
+    if 2147483647 < value {
+        return no_tokens(ABOVE, 2147483647);
+    }
+    Tokens {
+        wrong: NOTHING,
+        limit: 0,
+        count: run.count,
+        value: value as i32,
+    }
+}
+
+// Which row the letter at a place names.
+fn letter_row(b: u8) -> u8
+    ensures { λ r. ⌜ r ≡ letterRow b ⌝ }
+{
+    match b {
+        b'S' => SAMPLE_ROW,
+        b'R' => RECORD_ROW,
+        b'K' => TOKEN_ROW,
+        _ => NO_ROW,
+    }
+}
+
+// Which row the first field names.
+fn row_of(text: &[u8], from: usize, to: usize) -> u8
+    requires { ⌜ (from ≤ to) × (to ≤ length (now text)) ⌝ }
+{
+    let n = to - from;
+    if n == 1 {
+        return letter_row(text[from]);
+    }
+    if n != 3 {
+        return NO_ROW;
+    }
+    if text[from] != b'V' {
+        return NO_ROW;
+    }
+    if text[from + 1] != b'B' {
+        return NO_ROW;
+    }
+    if text[from + 2] != b'K' {
+        return NO_ROW;
+    }
+    HEADER_ROW
+}
+
+// The header's own checks.
+fn check_header(s: State, more: bool) -> State
+    requires { ⌜ Held s ⌝ }
+    ensures { λ r. ⌜ Held r ⌝ }
+{
+    if more {
+        return fail(s, TOO_MANY);
+    }
+    if answers::bad_depth(words::byte32(s.depth)) {
+        return fail(s, DEPTH);
+    }
+    let n = vbk_read::plane_area(s.width, s.height);
+    if n == 0 {
+        return fail(s, AREA);
+    }
+    if answers::AREA_LIMIT < n {
+        return fail(s, AREA);
+    }
+    begin_file(s, n)
+}
+
+// The file begins, with room for its samples.
+fn begin_file(s: State, n: usize) -> State
+    requires { ⌜ (Held s) × (n ≤ 4096) ⌝ }
+    ensures { λ r. ⌜ Held r ⌝ }
+{
+    if s.records != 0 {
+        return s;
+    }
+    let mut t = s;
+    t.start = 0;
+    t.need = 0;
+    t.length = 10 + 2 * n;
+    t
+}
+
+// What the header says.
+fn with_header(s: State, depth: u8, width: u16, height: u16) -> State
+    requires { ⌜ Held s ⌝ }
+    ensures { λ r. ⌜ Held r ⌝ }
+{
+    let mut t = s;
+    t.header_line = s.line;
+    t.depth = depth;
+    t.width = width;
+    t.height = height;
+    t
+}
+
+// The three numbers of the header.
+fn read_size(text: &[u8], at: usize, end: usize) -> Size
+    requires { ⌜ (at ≤ end) × (end ≤ length (now text)) ⌝ }
+{
+    let depth = read_unsigned(text, end, first_place(at), 255);
+    let width = read_unsigned(text, end, depth, 65535);
+    let place = read_unsigned(text, end, width, 65535);
+    Size {
+        depth: depth.value as u8,
+        width: width.value as u16,
+        height: place.value as u16,
+        place,
+    }
+}
+
+// The row VBK.
+fn take_header(text: &[u8], at: usize, end: usize, s: State) -> State
+    requires { ⌜ (Held s) × ((at ≤ end) × (end ≤ length (now text))) ⌝ }
+    ensures { λ r. ⌜ Held r ⌝ }
+{
+    if s.header_line != 0 {
+        return fail(s, TWO_HEADERS);
+    }
+    let h = read_size(text, at, end);
+    let place = h.place;
+    if place.wrong != NOTHING {
+        return fail_at(s, place);
+    }
+    check_header(with_header(s, h.depth, h.width, h.height), place.at < end)
+}
+
+// Samples up to `stop` become this value.
+fn fill_samples(samples: &mut [u16; 4096], from: usize, stop: usize, value: u16)
+    requires { ⌜ stop ≤ 4096 ⌝ }
+{
+    let mut i = from;
+    while i < stop {
+        samples[i] = value;
+        i += 1;
+    }
+}
+
+// Tokens up to `stop` become this value.
+fn fill_tokens(tokens: &mut [i32; 16384], from: usize, stop: usize, value: i32)
+    requires { ⌜ stop ≤ 16384 ⌝ }
+{
+    let mut i = from;
+    while i < stop {
+        tokens[i] = value;
+        i += 1;
+    }
+}
+
+// A run of samples: those past every plane are only counted.
+fn add_samples(s: State, run: Samples, samples: &mut [u16; 4096]) -> State
+    requires { ⌜ Held s ⌝ }
+    ensures { λ r. ⌜ Held r ⌝ }
+{
+    let count = plus(s.samples, run.count);
+    let from = least(s.samples, 4096);
+    let stop = least(count, 4096);
+    fill_samples(samples, from as usize, stop as usize, run.value);
+    let mut t = s;
+    t.samples = count;
+    t
+}
+
+// A run of tokens: those past the block are only counted.
+fn add_tokens(s: State, run: Tokens, tokens: &mut [i32; 16384]) -> State
+    requires { ⌜ Held s ⌝ }
+    ensures { λ r. ⌜ Held r ⌝ }
+{
+    let need = s.need as u64;
+    let count = plus(s.given, run.count);
+    let from = least(s.given, need) as usize;
+    let stop = least(count, need) as usize;
+    fill_tokens(tokens, s.start + from, s.start + stop, run.value);
+    let mut t = s;
+    t.given = count;
+    t
+}
+
+// The samples of a row, from a place on.
+fn take_samples(text: &[u8], at: usize, end: usize, s: State, samples: &mut [u16; 4096]) -> State
+    requires { ⌜ (Held s) × ((at ≤ end) × (end ≤ length (now text))) ⌝ }
+    ensures { λ r. ⌜ Held r ⌝ }
+{
+    let mut t = s;
+    let mut next = at;
+    let mut column: u64 = 1;
+    while next < end {
+        let f = clip_rows::next_field(text, next, end);
+        let run = read_samples(text, f.from, f.to);
+        column = plus(column, 1);
+        if run.wrong != NOTHING {
+            return fail_field(t, column, f, run.wrong, run.limit);
+        }
+        t = add_samples(t, run, samples);
+        next = f.next;
+    }
+    t
+}
+
+// The tokens of a row, from a place on, which is past so many columns.
+fn take_tokens(
+    text: &[u8],
+    at: usize,
+    end: usize,
+    s: State,
+    columns: u64,
+    tokens: &mut [i32; 16384],
+) -> State
+    requires { ⌜ (Held s) × ((at ≤ end) × (end ≤ length (now text))) ⌝ }
+    ensures { λ r. ⌜ Held r ⌝ }
+{
+    let mut t = s;
+    let mut next = at;
+    let mut column = columns;
+    while next < end {
+        let f = clip_rows::next_field(text, next, end);
+        let run = read_tokens(text, f.from, f.to);
+        column = plus(column, 1);
+        if run.wrong != NOTHING {
+            return fail_field(t, column, f, run.wrong, run.limit);
+        }
+        t = add_tokens(t, run, tokens);
+        next = f.next;
+    }
+    t
+}
+
+// As fail; the line is that of the row that asked for so many.
+fn fail_count(s: State, wrong: u8, line: u64) -> State
+    requires { ⌜ Held s ⌝ }
+    ensures { λ r. ⌜ Held r ⌝ }
+{
+    let mut t = s;
+    t.wrong = wrong;
+    t.line = line;
+    t
+}
+
+// The samples, or the last record's tokens, are as many as were asked for.
+fn close(s: State) -> State
+    requires { ⌜ Held s ⌝ }
+    ensures { λ r. ⌜ Held r ⌝ }
+{
+    if s.records == 0 {
+        let n = vbk_read::plane_area(s.width, s.height) as u64;
+        if s.samples == n {
+            return s;
+        }
+        return fail_count(s, SAMPLE_COUNT, s.header_line);
+    }
+    if s.given == s.need as u64 {
+        return s;
+    }
+    fail_count(s, TOKEN_COUNT, s.record_line)
+}
+
+// The row of one more record is met.
+fn meet(s: State) -> State
+    requires { ⌜ Held s ⌝ }
+    ensures { λ r. ⌜ Held r ⌝ }
+{
+    let mut t = s;
+    t.met = plus(s.met, 1);
+    t
+}
+
+// The number of tokens that a size asks for.
+fn tokens_of(size: u8) -> usize
+    ensures { λ r. ⌜ (16 ≤ r) × (r ≤ 1024) ⌝ }
+{
+    match size {
+        0 => 16,
+        1 => 64,
+        2 => 256,
+        _ => 1024,
+    }
+}
+
+// A record begins, for which the file has room.
+fn begin_record(s: State, size: u8, need: usize) -> State
+    requires { ⌜ (Held s) × ((16 ≤ need) × (s .length + 11 + 4 * need ≤ 65535)) ⌝ }
+    ensures { λ r. ⌜ Held r ⌝ }
+{
+    let mut t = s;
+    t.records = s.records + 1;
+    t.record_line = s.line;
+    t.size = size;
+    t.start = s.start + s.need;
+    t.need = need;
+    t.given = 0;
+    t.length = s.length + 11 + 4 * need;
+    t
+}
+
+// The first three numbers of a record.
+fn read_corner(text: &[u8], at: usize, end: usize) -> Corner
+    requires { ⌜ (at ≤ end) × (end ≤ length (now text)) ⌝ }
+    ensures { λ r. ⌜ r .place .at ≤ end ⌝ }
+{
+    let x = read_unsigned(text, end, first_place(at), 65535);
+    let y = read_unsigned(text, end, x, 65535);
+    let place = read_unsigned(text, end, y, 3);
+    Corner {
+        x: x.value as u16,
+        y: y.value as u16,
+        size: place.value as u8,
+        place,
+    }
+}
+
+// The seven numbers of a record before its tokens.
+fn read_head(text: &[u8], at: usize, end: usize) -> Head
+    requires { ⌜ (at ≤ end) × (end ≤ length (now text)) ⌝ }
+    ensures { λ r. ⌜ r .place .at ≤ end ⌝ }
+{
+    let c = read_corner(text, at, end);
+    let tx_type = read_unsigned(text, end, c.place, 255);
+    let lossless = read_unsigned(text, end, tx_type, 1);
+    let dc = read_unsigned(text, end, lossless, 65535);
+    let place = read_unsigned(text, end, dc, 65535);
+    Head {
+        x: c.x,
+        y: c.y,
+        size: c.size,
+        tx_type: tx_type.value as u8,
+        lossless: lossless.value as u8,
+        dc: dc.value as u16,
+        ac: place.value as u16,
+        place,
+    }
+}
+
+// A record's numbers into the lists.
+fn store_head(
+    i: usize,
+    h: Head,
+    need: usize,
+    xs: &mut [u16; 874],
+    ys: &mut [u16; 874],
+    sizes: &mut [u8; 874],
+    tx_types: &mut [u8; 874],
+    lossless: &mut [u8; 874],
+    dcs: &mut [u16; 874],
+    acs: &mut [u16; 874],
+    counts: &mut [u32; 874],
+)
+    requires { ⌜ (i < 874) × (need ≤ 1024) ⌝ }
+{
+    xs[i] = h.x;
+    ys[i] = h.y;
+    sizes[i] = h.size;
+    tx_types[i] = h.tx_type;
+    lossless[i] = h.lossless;
+    dcs[i] = h.dc;
+    acs[i] = h.ac;
+    counts[i] = need as u32;
+}
+
+// A record's numbers before its tokens, into the lists.
+fn take_head(
+    text: &[u8],
+    at: usize,
+    end: usize,
+    s: State,
+    xs: &mut [u16; 874],
+    ys: &mut [u16; 874],
+    sizes: &mut [u8; 874],
+    tx_types: &mut [u8; 874],
+    lossless: &mut [u8; 874],
+    dcs: &mut [u16; 874],
+    acs: &mut [u16; 874],
+    counts: &mut [u32; 874],
+) -> Begun
+    requires { ⌜ (Held s) × ((at ≤ end) × (end ≤ length (now text))) ⌝ }
+    ensures { λ r. ⌜ (Held (r .state)) × (r .at ≤ end) ⌝ }
+{
+    let h = read_head(text, at, end);
+    let place = h.place;
+    if place.wrong != NOTHING {
+        return Begun {
+            state: fail_at(s, place),
+            at: end,
+        };
+    }
+    let need = tokens_of(h.size);
+    let length = s.length + 11 + 4 * need;
+    if answers::FILE_LIMIT < length {
+        return Begun {
+            state: fail_with(s, FILE_LENGTH, length as u64),
+            at: end,
+        };
+    }
+    store_head(
+        s.records,
+        h,
+        need,
+        xs,
+        ys,
+        sizes,
+        tx_types,
+        lossless,
+        dcs,
+        acs,
+        counts,
+    );
+    Begun {
+        state: begin_record(s, h.size, need),
+        at: place.at,
+    }
+}
+
+// The tokens in the row of a record that began: past eight columns.
+fn go_on(text: &[u8], end: usize, b: Begun, tokens: &mut [i32; 16384]) -> State
+    requires { ⌜ (Held (b .state)) × ((b .at ≤ end) × (end ≤ length (now text))) ⌝ }
+    ensures { λ r. ⌜ Held r ⌝ }
+{
+    let t = b.state;
+    if t.wrong != NOTHING {
+        return t;
+    }
+    take_tokens(text, b.at, end, t, 8, tokens)
+}
+
+// The row R: a record's numbers, and the tokens that follow them.
+fn take_record(
+    text: &[u8],
+    at: usize,
+    end: usize,
+    s: State,
+    xs: &mut [u16; 874],
+    ys: &mut [u16; 874],
+    sizes: &mut [u8; 874],
+    tx_types: &mut [u8; 874],
+    lossless: &mut [u8; 874],
+    dcs: &mut [u16; 874],
+    acs: &mut [u16; 874],
+    counts: &mut [u32; 874],
+    tokens: &mut [i32; 16384],
+) -> State
+    requires { ⌜ (Held s) × ((at ≤ end) × (end ≤ length (now text))) ⌝ }
+    ensures { λ r. ⌜ Held r ⌝ }
+{
+    let b = take_head(
+        text,
+        at,
+        end,
+        s,
+        xs,
+        ys,
+        sizes,
+        tx_types,
+        lossless,
+        dcs,
+        acs,
+        counts,
+    );
+    go_on(text, end, b, tokens)
+}
+
+// Why a row may not stand where it stands.
+fn misplaced(s: State) -> u8 {
+    if s.row == NO_ROW {
+        return UNKNOWN_ROW;
+    }
+    if s.row == HEADER_ROW {
+        return NOTHING;
+    }
+    if s.header_line == 0 {
+        return HEADER_LATE;
+    }
+    if s.row == SAMPLE_ROW {
+        if s.records != 0 {
+            return SAMPLES_LATE;
+        }
+    }
+    if s.row == TOKEN_ROW {
+        if s.records == 0 {
+            return NO_RECORD;
+        }
+    }
+    NOTHING
+}
+
+// The state at a row's first field: which row it is, and what is wrong with its being there.
+fn at_row(text: &[u8], f: Field, s: State) -> State
+    requires { ⌜ (Held s) × ((f .from ≤ f .to) × (f .to ≤ length (now text))) ⌝ }
+    ensures { λ r. ⌜ Held r ⌝ }
+{
+    let mut t = s;
+    t.row = row_of(text, f.from, f.to);
+    t.from = f.from;
+    t.to = f.to;
+    let wrong = misplaced(t);
+    if wrong != NOTHING {
+        return fail(t, wrong);
+    }
+    if t.row == RECORD_ROW {
+        let c = close(t);
+        if c.wrong != NOTHING {
+            return c;
+        }
+        return meet(c);
+    }
+    t
+}
+
+// What follows a row's first field.
+fn take_fields(
+    text: &[u8],
+    at: usize,
+    end: usize,
+    s: State,
+    samples: &mut [u16; 4096],
+    xs: &mut [u16; 874],
+    ys: &mut [u16; 874],
+    sizes: &mut [u8; 874],
+    tx_types: &mut [u8; 874],
+    lossless: &mut [u8; 874],
+    dcs: &mut [u16; 874],
+    acs: &mut [u16; 874],
+    counts: &mut [u32; 874],
+    tokens: &mut [i32; 16384],
+) -> State
+    requires { ⌜ (Held s) × ((at ≤ end) × (end ≤ length (now text))) ⌝ }
+    ensures { λ r. ⌜ Held r ⌝ }
+{
+    let row = s.row;
+    match row {
+        HEADER_ROW => take_header(text, at, end, s),
+        SAMPLE_ROW => take_samples(text, at, end, s, samples),
+        TOKEN_ROW => take_tokens(text, at, end, s, 1, tokens),
+        _ => take_record(
+            text,
+            at,
+            end,
+            s,
+            xs,
+            ys,
+            sizes,
+            tx_types,
+            lossless,
+            dcs,
+            acs,
+            counts,
+            tokens,
+        ),
+    }
+}
+
+// A row that is not blank.
+fn take_row(
+    text: &[u8],
+    at: usize,
+    end: usize,
+    s: State,
+    samples: &mut [u16; 4096],
+    xs: &mut [u16; 874],
+    ys: &mut [u16; 874],
+    sizes: &mut [u8; 874],
+    tx_types: &mut [u8; 874],
+    lossless: &mut [u8; 874],
+    dcs: &mut [u16; 874],
+    acs: &mut [u16; 874],
+    counts: &mut [u32; 874],
+    tokens: &mut [i32; 16384],
+) -> State
+    requires { ⌜ (Held s) × ((at < end) × (end ≤ length (now text))) ⌝ }
+    ensures { λ r. ⌜ Held r ⌝ }
+{
+    let f = clip_rows::next_field(text, at, end);
+    let t = at_row(text, f, s);
+    if t.wrong != NOTHING {
+        return t;
+    }
+    take_fields(
+        text,
+        f.next,
+        end,
+        t,
+        samples,
+        xs,
+        ys,
+        sizes,
+        tx_types,
+        lossless,
+        dcs,
+        acs,
+        counts,
+        tokens,
+    )
+}
+
+// A line has nothing to read: it is blank, or begins with `#`.
+fn skipped(text: &[u8], at: usize, end: usize) -> bool
+    requires { ⌜ (at ≤ end) × (end ≤ length (now text)) ⌝ }
+{
+    let first = clip_rows::skip_blanks(text, at, end);
+    if end <= first {
+        return true;
+    }
+    text[first] == b'#'
+}
+
+// The line's end without blanks and empty fields; the line's begin where nothing of it is read.
+fn row_end(text: &[u8], at: usize, end: usize) -> usize
+    requires { ⌜ (at ≤ end) × (end ≤ length (now text)) ⌝ }
+    ensures { λ r. ⌜ (at ≤ r) × (r ≤ end) ⌝ }
+{
+    let stop = clip_rows::trimmed(text, at, end);
+    if skipped(text, at, stop) {
+        return at;
+    }
+    stop
+}
+
+// One line further.
+fn next_line(s: State) -> State
+    requires { ⌜ Held s ⌝ }
+    ensures { λ r. ⌜ (Held r) × (r .line ≡ lineAfter (s .line)) ⌝ }
+{
+    if s.line == 18446744073709551615 {
+        return s;
+    }
+    let mut t = s;
+    t.line = s.line + 1;
+    t
+}
+
+// The text ends: there was a header, and what it and the last record asked for.
+fn finish(s: State) -> State
+    requires { ⌜ Held s ⌝ }
+    ensures { λ r. ⌜ Held r ⌝ }
+{
+    if s.wrong != NOTHING {
+        return s;
+    }
+    if s.header_line == 0 {
+        return fail(s, NO_HEADER);
+    }
+    close(s)
+}
+
+// One line of the text.
+fn take_line(
+    text: &[u8],
+    at: usize,
+    end: usize,
+    s: State,
+    samples: &mut [u16; 4096],
+    xs: &mut [u16; 874],
+    ys: &mut [u16; 874],
+    sizes: &mut [u8; 874],
+    tx_types: &mut [u8; 874],
+    lossless: &mut [u8; 874],
+    dcs: &mut [u16; 874],
+    acs: &mut [u16; 874],
+    counts: &mut [u32; 874],
+    tokens: &mut [i32; 16384],
+) -> State
+    requires { ⌜ (Held s) × ((at ≤ end) × (end ≤ length (now text))) ⌝ }
+    ensures { λ r. ⌜ Held r ⌝ }
+{
+    let t = next_line(s);
+    let stop = row_end(text, at, end);
+    if stop <= at {
+        return t;
+    }
+    take_row(
+        text,
+        at,
+        stop,
+        t,
+        samples,
+        xs,
+        ys,
+        sizes,
+        tx_types,
+        lossless,
+        dcs,
+        acs,
+        counts,
+        tokens,
+    )
+}
+
+// All rows, as long as nothing is wrong.
+pub fn take_rows(
+    text: &[u8],
+    samples: &mut [u16; 4096],
+    xs: &mut [u16; 874],
+    ys: &mut [u16; 874],
+    sizes: &mut [u8; 874],
+    tx_types: &mut [u8; 874],
+    lossless: &mut [u8; 874],
+    dcs: &mut [u16; 874],
+    acs: &mut [u16; 874],
+    counts: &mut [u32; 874],
+    tokens: &mut [i32; 16384],
+) -> State
+    ensures { λ r. ⌜ Held r ⌝ }
+{
+    let mut s = nothing();
+    let mut at = clip_rows::first_line(text);
+    while at < text.len() {
+        let line = clip_rows::next_line(text, at);
+        s = take_line(
+            text,
+            at,
+            line.end,
+            s,
+            samples,
+            xs,
+            ys,
+            sizes,
+            tx_types,
+            lossless,
+            dcs,
+            acs,
+            counts,
+            tokens,
+        );
+        if s.wrong != NOTHING {
+            return s;
+        }
+        at = line.next;
+    }
+    finish(s)
+}

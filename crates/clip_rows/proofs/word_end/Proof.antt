@@ -1,0 +1,28 @@
+use Prim.Native.Nat.{_-_, _≤_}
+use borrow.Author.Needs.{needs}
+use Rattle.clip_rows.proofs.word_end.Statement.{statement}
+use Rattle.clip_rows.proofs.word_end.Tie as tie
+
+abbrev Inv-loop : tie.InvT-loop
+Inv-loop text at end i₀ i = (at ≤ i) × (i ≤ end)
+
+abbrev μ-loop : tie.MeasureT-loop
+μ-loop text at end i₀ i = end - i
+
+pub word-end-spec : {M : Type 1} → statement M
+word-end-spec =
+    tie.close
+    (tie.spec
+    Inv-loop
+    μ-loop
+    (λ c. search needs)
+    (λ c. search needs)
+    (λ c κs. search needs)
+    (λ c. search needs)
+    (λ c. search needs)
+    (λ c κs. search needs)
+    (λ c. search needs)
+    (λ c. search needs)
+    (λ c. search needs)
+    (λ c. search needs)
+    (λ c. search needs))

@@ -1,0 +1,11 @@
+pub mod Words
+pub mod Joined
+pub mod Counts
+pub mod Lengths
+pub mod Answers
+pub mod Writing
+pub mod Places
+pub mod Back
+pub mod Forth
+pub mod Trips
+pub mod Copies
