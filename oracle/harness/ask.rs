@@ -2,7 +2,7 @@
 
 use crate::idct_open::open;
 use crate::line::{Call, Outcome};
-use crate::{fwd_transform, idct, idct_open, intra, reconstruct, rules, vbk};
+use crate::{best, fwd_transform, idct, idct_open, intra, reconstruct, rules, vbk};
 
 fn numbers(list: impl IntoIterator<Item = impl Into<i64>>) -> Vec<i64> {
     list.into_iter().map(Into::into).collect()
@@ -228,6 +228,7 @@ pub fn ask(c: &Call) -> Outcome {
             out.splice(..length, numbers(file));
             Outcome { nums: vec![answer.into(), length as i128], lists: vec![out] }
         }
+        36 => value(best::token(a(2) as u32, a(3) as i64, a(1) as i64, a(0) as i64)),
         k => panic!("no kind {k}"),
     }
 }

@@ -12,6 +12,7 @@ mod intra;
 mod reconstruct;
 
 mod ask;
+mod best;
 mod cases;
 mod compare;
 mod digest;
@@ -32,6 +33,7 @@ calls gen SEED COUNT    print the systematic calls and COUNT random ones, with t
 calls files SEED COUNT DIR   write the systematic VBK files and COUNT random ones, each with its expected output
 calls lists SEED        print the fixed list
 calls digest SEED COUNT print the digest of COUNT calls of each kind
+calls best SEED COUNT   print calls of the quantizer with the tokens that trying every one gives: small limits, then COUNT coefficients
 calls compare SEED COUNT DIR SIDE..   generated cases to each side; what is found goes to DIR
 calls list FILE DIR SIDE..            a list as it stands to each side
 calls linked SEED COUNT DIR [KIND]    generated cases to our library in this process (only where it is linked: target/oracle/*/linked)
@@ -166,6 +168,14 @@ fn main() {
         }
         Some("lists") => lists::write_all(number(&args, 1), &mut BufWriter::new(std::io::stdout())),
         Some("digest") => digest::print(number(&args, 1), number(&args, 2)),
+        Some("best") => {
+            let mut out = BufWriter::with_capacity(1 << 20, std::io::stdout());
+            best::every(number(&args, 1), number(&args, 2), &mut |c, o| {
+                let mut text = line::write(c, o);
+                text.push(b'\n');
+                out.write_all(&text).expect("standard output");
+            });
+        }
         Some("list") => std::process::exit(compare::run_list(word(&args, 1), word(&args, 2), &args[3..])),
         Some("compare") => {
             let (seed, count, dir) = (number(&args, 1), number(&args, 2), word(&args, 3));

@@ -3,7 +3,7 @@
 
 use crate::line::Call;
 use crate::rng::Rng;
-use crate::{files, rules, vbk};
+use crate::{best, files, rules, vbk};
 
 const ROUNDED: i64 = 1 << 62; // what Round2 takes
 const LEAF: i64 = 1 << 46; // operands of B, H, SB and the WHT
@@ -363,7 +363,7 @@ impl Recon {
     }
 }
 
-fn quantizer(r: &mut Rng) -> i32 {
+pub fn quantizer(r: &mut Rng) -> i32 {
     match r.below(6) {
         0 => 1,
         1 => 4,
@@ -1068,6 +1068,13 @@ fn codeable(r: &mut Rng) -> Call {
     call(26, vec![depth.into()], vec![])
 }
 
+/// One coefficient, whose best token is found by trying all: the limit is even, as those of all depths are.
+fn one_token(r: &mut Rng) -> Call {
+    let most = 2 * r.pick(&[0, 1, 2, 5, 33, 300]);
+    let (size, q) = (r.below(4) as u32, i64::from(quantizer(r)));
+    best::call(size, most, q, best::coefficient(r, size, most, q))
+}
+
 /// The record of the worked file of docs/REFERENCE.md.
 pub fn example() -> Recon {
     let mut tokens = vec![0; 16];
@@ -1598,6 +1605,10 @@ pub fn worked(out: &mut dyn FnMut(Call)) {
         out(call(kind, args, vec![list]));
     }
     out(call(24, vec![3, 3, 3, 8], vec![vec![2]]));
+    for coef in [2, 3, 6, 7] {
+        out(best::call(0, rules::codeable(8), 4, coef));
+    }
+    out(best::call(3, rules::codeable(8), 3, 2));
     for depth in DEPTHS {
         out(call(26, vec![depth.into()], vec![]));
     }
@@ -1635,6 +1646,7 @@ pub fn systematic(r: &mut Rng, out: &mut dyn FnMut(Call)) {
     systematic_drivers(r, out);
     systematic_recon(r, out);
     systematic_coder(out);
+    best::small(5, 4, out);
     systematic_report(r, out);
     systematic_rows(r, out);
     systematic_writing(out);
@@ -1659,7 +1671,7 @@ fn file(r: &mut Rng) -> Call {
 
 /// One random call. Most are of the calls that do the work.
 pub fn random(r: &mut Rng) -> Call {
-    match r.below(110) {
+    match r.below(111) {
         0 => round2(r),
         1 => brev(r),
         2 => call(r.pick(&[3, 4]), vec![angle(r)], vec![]),
@@ -1683,6 +1695,7 @@ pub fn random(r: &mut Rng) -> Call {
         97..=99 => replaced(r),
         100..=102 => driver(r, 34),
         103..=104 => writing(r),
+        105 => one_token(r),
         _ => {
             let (kind, numbers) = r.pick(&REFUSALS);
             let wanted: Vec<u8> = (0..r.range(1, 3)).map(|_| r.pick(numbers)).collect();

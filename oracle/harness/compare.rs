@@ -314,7 +314,7 @@ fn simpler(c: &Call) -> Vec<Call> {
         let better: &[i128] = match *name {
             "width" | "height" | "stride" | "n" | "size" | "bits" | "k" | "shift" | "a" | "b" => &[],
             "depth" => &[8],
-            "dc" | "ac" => &[1, 4],
+            "dc" | "ac" | "q" => &[1, 4],
             _ => &[0],
         };
         for w in better {
@@ -322,7 +322,7 @@ fn simpler(c: &Call) -> Vec<Call> {
                 with(&|d| d.args[i] = *w);
             }
         }
-        if matches!(*name, "x" | "y" | "dc" | "ac" | "angle") && v.abs() > 1 {
+        if matches!(*name, "x" | "y" | "dc" | "ac" | "q" | "coef" | "angle") && v.abs() > 1 {
             with(&|d| d.args[i] = v / 2);
             with(&|d| d.args[i] = v - v.signum());
         }

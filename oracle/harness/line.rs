@@ -57,6 +57,7 @@ pub const SHAPES: &[Shape] = &[
     Shape { kind: 35, name: "vbk_write", args: &["depth", "width", "height"],
         lists: &["samples", "xs", "ys", "sizes", "types", "lossless", "dcs", "acs", "counts", "tokens", "out"],
         nums: &["answer", "length"], after: &[After::Lent(10)] },
+    Shape { kind: 36, name: "quantize", args: &["coef", "q", "size", "limit"], lists: &[], nums: &["token"], after: NONE },
 ];
 
 pub fn shape(kind: u32) -> Option<&'static Shape> {

@@ -52,6 +52,7 @@ fn class(c: &Call, o: &Outcome) -> Vec<i128> {
         33 => vec![answer, small(c.args[0]), small(c.args[5])],
         24 if answer == 0 => vec![0, c.args[2], c.args[3]],
         23..=25 => vec![answer],
+        36 => vec![i128::from(c.args[2] == 3), c.args[1].min(4), c.args[3].min(6)],
         30 => {
             // the header's answer, and which answers its records have
             let mut set: Vec<i64> = o.lists[0].clone();
@@ -110,6 +111,7 @@ fn room(c: &Call, o: &Outcome) -> (usize, usize) {
         24 if answer == 0 => (250, 12),
         25 if answer == 0 => (250, 100),
         23..=25 => (250, 12),
+        36 => (100, 6),
         _ => (600, 5),
     }
 }

@@ -1,3 +1,4 @@
 pub mod Quantizer
 pub mod ListLaw
+pub mod Best
 pub mod Wht

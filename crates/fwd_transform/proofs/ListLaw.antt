@@ -1,11 +1,10 @@
 -- The token law for whole lists, as the calls see them: the coefficients of codeable tokens are taken, and each token is given back.
-use mathlib.Core.Path.{_≡_, refl, sym, ap, _∙_}
-use mathlib.Core.Bool.{Bool, true, false}
+use mathlib.Core.Path.{_≡_, sym, ap, _∙_}
+use mathlib.Core.Bool.{false}
 use mathlib.Core.List.{List}
 use Prim.Native.Nat.{ℕ, _≤_, _<_}
 use native.Mathlib.Omega.{arith}
 use borrow.Author.Tests.{le-ltb}
-use lib.Dec.{eqb}
 use lib.IntN.{ℤ, pos, natAbs}
 use lib.ListN.{length, getD}
 use Rattle.whole.proofs.Lists.{length-tabulate, getD-tabulate, tabulate-same}
@@ -20,7 +19,7 @@ use Rattle.quant.specs.declared.AcQuant.{AcQuant}
 use Rattle.quant.specs.declared.DcQuant.{DcQuant}
 use Rattle.quant.proofs.TokenLaw.{token-law}
 use Rattle.fwd_transform.specs.Quantize.{Input, answerOf, tokenAt, tokensOf, Quantized}
-use Rattle.fwd_transform.proofs.Quantizer.{done}
+use Rattle.fwd_transform.proofs.Quantizer.{done, place-ok}
 
 -- what the call is given: the coefficients of these tokens
 abbrev pub requantized : ℕ → ℕ → DcQuant → AcQuant → List ℤ → Input
@@ -37,14 +36,6 @@ pub record Codeable (size depth : ℕ) (dc : DcQuant) (ac : AcQuant) (tokens : L
   pub coefs-ok : (k : ℕ) → k < length tokens → natAbs (dequant size (quantizerAt dc ac k) (getD tokens k (pos 0))) ≤ COEF_LIMIT
 
 module _ (size depth : ℕ) (dc : DcQuant) (ac : AcQuant) (tokens : List ℤ) (h : Codeable size depth dc ac tokens) where
-  quantizer-ok : (k : ℕ) → badQuantizer (quantizerAt dc ac k) ≡ false
-  unfolding quantizerAt
-  quantizer-ok k = go (eqb k 0) refl
-    where
-      go : (b : Bool) → eqb k 0 ≡ b → badQuantizer (quantizerAt dc ac k) ≡ false
-      go true e = rw e (h .dc-ok)
-      go false e = rw e (h .ac-ok)
-
   length-all : length (dequantAll size dc ac tokens) ≡ length tokens
   unfolding dequantAll
   length-all = length-tabulate _ (length tokens)
@@ -67,7 +58,7 @@ module _ (size depth : ℕ) (dc : DcQuant) (ac : AcQuant) (tokens : List ℤ) (h
   unfolding tokensOf tokenAt givenBackAll
   list-law =
       rw length-all (tabulate-same _ _ (length tokens) (λ k l. ap (quantize size (codeable depth) (quantizerAt dc ac k)) (at-place k l)
-      ∙ token-law size depth (quantizerAt dc ac k) (getD tokens k (pos 0)) (quantizer-ok k) (h .tokens-ok k l)))
+      ∙ token-law size depth (quantizerAt dc ac k) (getD tokens k (pos 0)) (place-ok dc ac k (h .dc-ok) (h .ac-ok)) (h .tokens-ok k l)))
 
   -- whatever meets the promise
   pub call-law : (a : Answer) (after : List ℤ) → Quantized (requantized size depth dc ac tokens) a after → (number a ≡ 0) × (after ≡ givenBackAll size dc ac tokens)

@@ -15,11 +15,23 @@ use Rattle.answers.specs.Limits.{COEF_LIMIT, LIST_LIMIT}
 use Rattle.answers.specs.declared.Answer.{Answer}
 use Rattle.answers.proofs.Numbers.{pass, rest}
 use Rattle.answers.proofs.Passed.{none-beyond}
+use Rattle.quant.specs.Places.{quantizerAt}
+use Rattle.quant.specs.declared.AcQuant.{AcQuant}
+use Rattle.quant.specs.declared.DcQuant.{DcQuant}
 use Rattle.fwd_transform.specs.Quantize.{Input, answerOf, tokenAt, tokensOf}
 
 neither : (a b : Bool) → a || b ≡ false → (a ≡ false) × (b ≡ false)
 neither true b h = (h, cc)
 neither false b h = (refl, h)
+
+-- the quantizer of a place is good where both are
+pub place-ok : (dc : DcQuant) (ac : AcQuant) (k : ℕ) → badQuantizer (dc .0) ≡ false → badQuantizer (ac .0) ≡ false → badQuantizer (quantizerAt dc ac k) ≡ false
+unfolding quantizerAt
+place-ok dc ac k d a = go (eqb k 0) refl
+  where
+    go : (b : Bool) → eqb k 0 ≡ b → badQuantizer (quantizerAt dc ac k) ≡ false
+    go true e = rw e d
+    go false e = rw e a
 
 module _ (i : Input) where
   -- a refusal leaves the list

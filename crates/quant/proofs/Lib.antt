@@ -1,5 +1,8 @@
 pub mod Floor
+pub mod Bracket
 pub mod Sign
 pub mod TokenLaw
+pub mod Nearness
+pub mod Worse
 pub mod Halves
 pub mod Machine

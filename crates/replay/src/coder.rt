@@ -1,9 +1,23 @@
-// Kinds 23 to 26: forward WHT and quantizers.
+// Kinds 23 to 26 and 36: forward WHT and quantizers.
 use crate::verdict::Verdict;
 use crate::verdict::answered;
+use crate::verdict::outside;
 use crate::verdict::reached;
+use answers::magnitude;
 use quant::AcQuant;
 use quant::DcQuant;
+ghost use mathlib.Core.Bool.{true, false};
+ghost use mathlib.Core.Path.{_≡_};
+ghost use Prim.Native.Nat.{_^_, _≤_};
+ghost use lib.IntN.{natAbs};
+ghost use Rattle.answers.specs.Bad.{badQuantizer};
+ghost use Rattle.answers.specs.Limits.{codeable};
+
+// 2^31: what one number's quantizer takes.
+const COEF: u64 = 2147483648;
+
+// The greatest limit of a token, that of depth 12.
+const MOST: u64 = 262210;
 
 // Kind 23: the block.
 pub fn forward_wht_2d(line: &[u8], at: usize, numbers: &mut [i64]) -> Verdict {
@@ -52,4 +66,31 @@ pub fn max_codeable_coef(line: &[u8], at: usize) -> Verdict {
         line,
         lines::same(line, depth.next, quant::max_codeable_coef(depth.value)),
     )
+}
+
+// What the quantizer of one number requires.
+fn quantizable(coef: i64, ac: AcQuant, most: u64) -> bool
+    ensures { λ r. ⌜ (r ≡ true → (badQuantizer (ac .0) ≡ false) × (natAbs coef ≤ 2 ^ 31) × (most ≤ codeable 12)) ⌝ }
+{
+    if ac.bad() {
+        return false;
+    }
+    if COEF < magnitude(coef) {
+        return false;
+    }
+    most <= MOST
+}
+
+// Kind 36: a coefficient, its quantizer, the size and the limit of a token.
+pub fn quantize(line: &[u8], at: usize) -> Verdict {
+    let coef = lines::read_signed(line, at);
+    let q = lines::read_signed32(line, coef.next);
+    let size = lines::read_unsigned32(line, q.next);
+    let most = lines::read_unsigned(line, size.next);
+    let ac = AcQuant(q.value);
+    if quantizable(coef.value, ac, most.value) {
+        let token = ac.quantize(coef.value, size.value, most.value);
+        return reached(line, lines::same(line, most.next, token));
+    }
+    outside(most.next)
 }

@@ -39,6 +39,7 @@ pub fn verdict(kind: usize, line: &[u8], at: usize, numbers: &mut [i64]) -> Verd
             replay_rows::inverse_transform_2d_rows(line, at, numbers),
         ),
         35 => reached(line, replay_files::vbk_write(line, at, numbers)),
+        36 => coder::quantize(line, at),
         _ => Verdict::Skipped,
     }
 }

@@ -10,6 +10,8 @@ mod intra;
 #[path = "../../../../oracle/rust/reconstruct.rs"]
 mod reconstruct;
 
+#[path = "../../../../oracle/harness/best.rs"]
+mod best;
 #[path = "../../../../oracle/harness/cases.rs"]
 mod cases;
 #[path = "../../../../oracle/harness/files.rs"]
