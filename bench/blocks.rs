@@ -166,6 +166,19 @@ fn ours(samples: &mut [u16], (w, h): (usize, usize), (x, y): (usize, usize), b: 
     unsafe { c::bracetwill_reconstruct_block(p, count, w, h, w, x, y, b.size, tokens.as_ptr(), tokens.len(), b.quant[0], b.quant[1], b.kind, b.lossless, b.depth) }
 }
 
+/// The counts and sums of a report.
+struct Report([u32; 44], [u64; 44]);
+
+fn ours_report(samples: &mut [u16], (w, h): (usize, usize), (x, y): (usize, usize), b: &Block, tokens: &[i64], r: &mut Report) -> u32 {
+    let (p, count) = (samples.as_mut_ptr(), samples.len());
+    let (counts, sums) = (&raw mut r.0, &raw mut r.1);
+    unsafe {
+        c::bracetwill_reconstruct_block_report(
+            p, count, w, h, w, x, y, b.size, tokens.as_ptr(), tokens.len(), b.quant[0], b.quant[1], b.kind, b.lossless, b.depth, counts, sums,
+        )
+    }
+}
+
 fn rusts(plane: &mut intra::Plane, (x, y): (usize, usize), b: &Block, tokens: &[i64]) {
     reconstruct::reconstruct_block(plane, x, y, b.size, tokens, b.quant[0], b.quant[1], b.kind, b.lossless, b.depth);
 }
@@ -376,8 +389,8 @@ fn batch(blocks: &[Block]) -> Batch {
     Batch { blocks: blocks.to_vec(), places, height: y + tall }
 }
 
-/// ours, the Rust, libvpx's plain C, libvpx as it is packaged (its assembler where it has some)
-const SIDES: usize = 4;
+/// ours, the Rust, ours with a report beside it, libvpx's plain C, libvpx as it is packaged (its assembler where it has some)
+const SIDES: usize = 5;
 
 /// Least ns of a pass over the batch, for each side. In the first round the samples are compared, and the clock does not count.
 fn measure(rounds: usize, batch: &Batch) -> [f64; SIDES] {
@@ -404,13 +417,14 @@ fn measure(rounds: usize, batch: &Batch) -> [f64; SIDES] {
     let coefs = &coefs.all()[..room];
     let mut least = [f64::MAX; SIDES];
     for round in 0..rounds + 1 {
-        for side in 0..if cfg!(libvpx) { SIDES } else { 2 } {
+        for side in 0..if cfg!(libvpx) { SIDES } else { 3 } {
             match side {
-                0 => own.all()[..area].copy_from_slice(&start),
+                0 | 2 => own.all()[..area].copy_from_slice(&start),
                 1 => plane.samples_mut().copy_from_slice(&start),
                 _ if shallow => plain.all()[..area].copy_from_slice(&narrow),
                 _ => deep.all()[..area].copy_from_slice(&start),
             }
+            let mut report = Report([0; 44], [0; 44]);
             let clock = Instant::now();
             for (b, &(x, y, at)) in batch.blocks.iter().zip(&batch.places) {
                 let b = black_box(b);
@@ -420,14 +434,18 @@ fn measure(rounds: usize, batch: &Batch) -> [f64; SIDES] {
                         ours(&mut own.all()[..area], (WIDTH, batch.height), (x, y), b, &tokens[block]);
                     }
                     1 => rusts(&mut plane, (x, y), b, &tokens[block]),
-                    _ if shallow => vpx::add8(side == 2, b, &coefs[block], &mut plain.all()[place..], WIDTH),
-                    _ => vpx::add16(side == 2, b, &coefs[block], &mut deep.all()[place..], WIDTH),
+                    2 => {
+                        ours_report(&mut own.all()[..area], (WIDTH, batch.height), (x, y), b, &tokens[block], &mut report);
+                    }
+                    _ if shallow => vpx::add8(side == 3, b, &coefs[block], &mut plain.all()[place..], WIDTH),
+                    _ => vpx::add16(side == 3, b, &coefs[block], &mut deep.all()[place..], WIDTH),
                 }
             }
             let ns = clock.elapsed().as_nanos() as f64;
             if round == 0 {
                 let same = match side {
                     0 => own.all()[..area] == want[..],
+                    2 => own.all()[..area] == want[..] && report.0.iter().map(|&k| k as usize).sum::<usize>() == room,
                     1 => plane.samples() == &want[..],
                     _ if shallow => plain.all()[..area].iter().zip(&want).all(|(&a, &w)| a as u16 == w),
                     _ => deep.all()[..area] == want[..],
@@ -461,8 +479,9 @@ fn line(name: &str, rounds: usize, blocks: &[Block]) {
     }
     let each = |s: usize| ns[s] / blocks.len() as f64;
     print!("| {name} | {} | {:.1} | {:.1} | {:.2} |", blocks.len(), each(0), each(1), each(0) / each(1));
+    print!(" {:.1} | {:.2} |", each(2), each(2) / each(0));
     if cfg!(libvpx) {
-        print!(" {:.1} | {:.2} | {:.1} | {:.2} |", each(2), each(0) / each(2), each(3), each(0) / each(3));
+        print!(" {:.1} | {:.2} | {:.1} | {:.2} |", each(3), each(0) / each(3), each(4), each(0) / each(4));
     }
     println!();
 }
@@ -470,11 +489,11 @@ fn line(name: &str, rounds: usize, blocks: &[Block]) {
 fn time(rounds: usize, file: &str) {
     vpx::start();
     let blocks: Vec<Block> = Records::open(file).collect();
-    print!("| blocks | count | ours ns | Rust ns | ours / Rust |");
+    print!("| blocks | count | ours ns | Rust ns | ours / Rust | with report ns | with / without |");
     if cfg!(libvpx) {
         print!(" libvpx C ns | ours / C | libvpx as packaged ns | ours / packaged |");
     }
-    println!("\n{}|", "|---".repeat(if cfg!(libvpx) { 9 } else { 5 }));
+    println!("\n{}|", "|---".repeat(if cfg!(libvpx) { 11 } else { 7 }));
     line("all, in their order", rounds, &blocks);
     for size in 0..4 {
         let n0 = 4 << size;

@@ -10,6 +10,7 @@ mod intra;
 mod reconstruct;
 #[allow(dead_code)]
 mod rules;
+#[allow(dead_code)]
 mod vbk;
 
 use std::io::{Read, Write};
