@@ -1,5 +1,6 @@
 /* A lossless block into a plane of 100s, and back: the source that the forward WHT was given comes out of reconstruction. Then the same with a
- * report of its tokens beside it; then which rows of a block of coefficients hold anything, and how many of them are transformed. */
+ * report of its tokens beside it; then which rows of a block of coefficients hold anything, and how many of them are transformed; then the block
+ * as a VBK file, written and run. */
 #include "bracetwill.h"
 #include <stdio.h>
 
@@ -45,6 +46,26 @@ int main(void) {
   printf("rows %u, first %d, last %d\n", (unsigned)bracetwill_row_count(summary), (int)bracetwill_first_row(summary), (int)bracetwill_last_row(summary));
   if (refused("driver", bracetwill_inverse_transform_2d_rows(rows, 16, 2, BRACETWILL_DCT_DCT, false, &transforms))) return 1;
   printf("row transforms %u\n", (unsigned)transforms);
+
+  /* the lossless block in a VBK file: a plane of 100s and one record; then a run over the file's bytes */
+  const uint16_t xs[1] = {4}, ys[1] = {0}, dcs[1] = {4}, acs[1] = {4};
+  const uint8_t sizes[1] = {0}, types[1] = {BRACETWILL_DCT_DCT}, lossless[1] = {1};
+  const uint32_t brings[1] = {16};
+  int32_t tokens[16];
+  uint16_t hundreds[8 * 4];
+  static uint8_t file[BRACETWILL_FILE_LIMIT], answers[BRACETWILL_ANSWERS_ROOM];
+  static uint16_t shown[BRACETWILL_SAMPLES_ROOM];
+  uint64_t figures[BRACETWILL_FIGURES];
+  size_t length[1];
+  for (int k = 0; k < 16; k++) tokens[k] = (int32_t)block[k];
+  for (int k = 0; k < 8 * 4; k++) hundreds[k] = 100;
+  if (refused("writing", bracetwill_vbk_write(8, 8, 4, hundreds, 8 * 4, xs, 1, ys, 1, sizes, 1, types, 1, lossless, 1, dcs, 1, acs, 1, brings, 1,
+                                              tokens, 16, file, sizeof file, length)))
+    return 1;
+  if (refused("run", bracetwill_replay(file, length[0], shown, BRACETWILL_SAMPLES_ROOM, answers, BRACETWILL_ANSWERS_ROOM, figures, BRACETWILL_FIGURES)))
+    return 1;
+  printf("file of %u bytes: record answered %u, samples written %u, the last is %u\n", (unsigned)length[0], (unsigned)answers[0],
+         (unsigned)figures[BRACETWILL_FIGURE_TOUCHED], (unsigned)shown[8 * 4 - 1]);
 
   /* the block of above at a depth that there is not: the plane stays */
   return !refused("reconstruction", bracetwill_reconstruct_block(plane, 8 * 4, 8, 4, 8, 4, 0, 0, block, 16, 4, 4, BRACETWILL_DCT_DCT, true, 9));
