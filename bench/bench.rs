@@ -11,6 +11,9 @@ mod reconstruct;
 #[path = "../bindings/rust/src/archive.rs"]
 mod archive;
 
+#[cfg(libvpx)]
+mod vpx;
+
 use std::hint::black_box;
 use std::time::Instant;
 
@@ -18,6 +21,9 @@ mod ours {
     use crate::archive as c;
     pub fn inverse_transform_2d(block: &mut [i64], n: u32, tx_type: u8, lossless: bool) -> u32 {
         unsafe { c::bracetwill_inverse_transform_2d(block.as_mut_ptr(), block.len(), n, tx_type, lossless) }
+    }
+    pub fn inverse_transform_2d_32(block: &mut [i64], n: u32, tx_type: u8, lossless: bool) -> u32 {
+        unsafe { c::bracetwill_inverse_transform_2d_32(block.as_mut_ptr(), block.len(), n, tx_type, lossless) }
     }
     pub fn inverse_transform_2d_rows(block: &mut [i64], n: u32, tx_type: u8, lossless: bool) -> u32 {
         let mut rows = 0;
@@ -59,6 +65,15 @@ mod ours {
             )
         }
     }
+}
+
+/// What libvpx's transforms are chosen by (vpx.rs).
+pub struct Block {
+    pub size: u32,
+    pub kind: u8,
+    pub lossless: bool,
+    pub eob: u32,
+    pub depth: u32,
 }
 
 struct Rng(u64);
@@ -175,6 +190,81 @@ fn driver(rounds: usize, only: &str) {
     }
 }
 
+const NARROW: [&str; 5] = ["small", "low", "dc", "large", "leaves"];
+
+/// A block for the 32-bit engine by what it meets there: magnitudes that sum to at most 16,384, at every place, in the low quarter, or at place 0;
+/// a larger sum, whose numbers stay within 16 bits; and numbers that leave them.
+fn narrow_block(rng: &mut Rng, n: u32, ty: u8, lossless: bool, kind: usize) -> Vec<i64> {
+    let n0 = 1usize << n;
+    loop {
+        let mut b = vec![0i64; n0 * n0];
+        match kind {
+            0 => b.iter_mut().for_each(|v| *v = rng.within(28_000 / (n0 * n0) as i64)),
+            1 => (0..n0 * n0).filter(|k| k / n0 < n0 / 2 && k % n0 < n0 / 2).for_each(|k| b[k] = rng.within(100_000 / (n0 * n0) as i64) / (1 + (k % n0 + k / n0) as i64)),
+            2 => b[0] = rng.within(2000) | 1,
+            3 => b.iter_mut().for_each(|v| *v = rng.within(200_000 / (n0 * n0) as i64)),
+            _ => b.iter_mut().for_each(|v| *v = if rng.next() % 2 == 0 { 32_767 } else { -32_768 }),
+        }
+        let sum: i64 = b.iter().map(|v| v.abs()).sum();
+        let passes = ours::inverse_transform_2d_32(&mut b.clone(), n, ty, lossless) == 0;
+        if passes == (kind < 4) && (sum <= 16_384) == (kind < 3) {
+            return b;
+        }
+    }
+}
+
+/// The 32-bit engine beside the Rust, our 64-bit one and, where it is installed, libvpx in plain C for samples of 8 bits, which adds the residual
+/// to them. Where the engine answers 18 the others do their work, and it touches nothing; lossless blocks hardly ever do.
+fn engine(rounds: usize, only: &str) {
+    println!("32-bit engine\n| block   | type | numbers | Rust ns | 64 bits ns | libvpx C ns | 32 bits ns | 32 bits / Rust | 32 / 64 bits | 32 bits / C |");
+    for n in 2..=5u32 {
+        let n0 = 1usize << n;
+        for &(ty, lossless) in kinds(n) {
+            for (kind, word) in NARROW.iter().enumerate() {
+                let name = format!("{n0:>2} x {n0:<2} | {:<3} | {word:<6}", if lossless { "wht".to_string() } else { format!("{ty}") });
+                if !name.contains(only) || lossless && kind == 4 {
+                    continue;
+                }
+                let count = (1 << 16) / (n0 * n0);
+                let mut rng = Rng(0x9e37_79b9_7f4a_7c15 ^ (n as u64) << 8 ^ ty as u64);
+                let input: Vec<i64> = (0..count).flat_map(|_| narrow_block(&mut rng, n, ty, lossless, kind)).collect();
+                let work = std::cell::RefCell::new(input.clone());
+                let mut theirs = || work.borrow_mut().chunks_exact_mut(n0 * n0).for_each(|b| idct::inverse_transform_2d(black_box(b), black_box(n), black_box(ty), black_box(lossless)));
+                let mut wide = || {
+                    for b in work.borrow_mut().chunks_exact_mut(n0 * n0) {
+                        ours::inverse_transform_2d(black_box(b), black_box(n), black_box(ty), black_box(lossless));
+                    }
+                };
+                let mut narrow = || {
+                    for b in work.borrow_mut().chunks_exact_mut(n0 * n0) {
+                        ours::inverse_transform_2d_32(black_box(b), black_box(n), black_box(ty), black_box(lossless));
+                    }
+                };
+                let coefs: Vec<i32> = input.iter().map(|&v| v as i32).collect();
+                let mut samples = vec![128u8; n0 * n0];
+                let mut libvpx = || added(&coefs, &mut samples, n0, &Block { size: n - 2, kind: ty, lossless, eob: if kind == 2 { 1 } else { (n0 * n0) as u32 }, depth: 8 });
+                theirs();
+                let want = if kind < 4 { work.borrow().clone() } else { input.clone() };
+                work.borrow_mut().copy_from_slice(&input);
+                narrow();
+                assert!(want == *work.borrow(), "the results differ: {name}");
+                let t = measure(rounds, count, || work.borrow_mut().copy_from_slice(&input), &mut [&mut theirs, &mut wide, &mut narrow, &mut libvpx]);
+                let c = if cfg!(libvpx) { (format!("{:.1}", t[3]), format!("{:.2}", t[2] / t[3])) } else { (String::new(), String::new()) };
+                println!("| {name} | {:.1} | {:.1} | {} | {:.1} | {:.2} | {:.2} | {} |", t[0], t[1], c.0, t[2], t[2] / t[0], t[2] / t[1], c.1);
+            }
+        }
+    }
+}
+
+#[cfg(libvpx)]
+fn added(coefs: &[i32], samples: &mut [u8], n0: usize, like: &Block) {
+    for b in coefs.chunks_exact(n0 * n0) {
+        vpx::add8(true, black_box(like), black_box(b), samples, n0);
+    }
+}
+#[cfg(not(libvpx))]
+fn added(_: &[i32], _: &mut [u8], _: usize, _: &Block) {}
+
 /// Width and height of the plane of whole blocks.
 const SIDE: usize = 256;
 
@@ -246,5 +336,6 @@ fn main() {
     let rounds = args.next().and_then(|a| a.parse().ok()).unwrap_or(60);
     let only = args.next().unwrap_or_default();
     driver(rounds, &only);
+    engine(rounds, &only);
     rebuild(rounds, &only);
 }

@@ -68,7 +68,8 @@ enum bracetwill_answer {
   BRACETWILL_ANSWER_LOSSLESS_BYTE = 14,
   BRACETWILL_ANSWER_REPORT = 15,
   BRACETWILL_ANSWER_PLACE = 16,
-  BRACETWILL_ANSWER_ROOM = 17
+  BRACETWILL_ANSWER_ROOM = 17,
+  BRACETWILL_ANSWER_NARROW = 18
 };
 
 /* An answer in words, the same that every other part of the product says; never NULL. */
@@ -92,6 +93,7 @@ static inline const char *bracetwill_answer_meaning(uint32_t answer) {
   case BRACETWILL_ANSWER_REPORT: return "the block takes the total of all counts past 4,294,967,295, or a class sum is above its count times 262,210";
   case BRACETWILL_ANSWER_PLACE: return "the place is at or past the block's end";
   case BRACETWILL_ANSWER_ROOM: return "the buffer is too short for the file";
+  case BRACETWILL_ANSWER_NARROW: return "a number of the recursive process leaves 16 bits (the 32-bit engine alone)";
   default: return "no answer has this number";
   }
 }
@@ -160,6 +162,13 @@ uint32_t bracetwill_replace_token(int64_t *block, size_t block_len, uint32_t *su
  * bracetwill_inverse_transform_2d; under a refusal *rows stays. */
 BRACETWILL_NODISCARD
 uint32_t bracetwill_inverse_transform_2d_rows(int64_t *block, size_t block_len, uint32_t n, uint8_t tx_type, bool lossless, uint32_t *rows);
+
+/* bracetwill_inverse_transform_2d with no number wider than 32 bits on the way, for blocks of depth 8: where every coefficient, and every
+ * number that the recursive process loads into T or stores there, in rows and then in columns, lies in -32768 to 32767, the same answer and
+ * the same block. Elsewhere, where no number of the driver's applies, 18, and the block stays: nothing wraps.
+ * Answers 0, 2 (n), 3, 4, 6 (fewer than n0 * n0), 9, 18. */
+BRACETWILL_NODISCARD
+uint32_t bracetwill_inverse_transform_2d_32(int64_t *block, size_t block_len, uint32_t n, uint8_t tx_type, bool lossless);
 
 /* A block's tokens are dequantized and transformed, and the residual is added to the samples at column x and row y and on, each clipped to
  * the depth, cut to the plane. Samples stand row by row, stride * height of them: that of row y and column x is number y * stride + x. What

@@ -61,6 +61,15 @@ define i32 @bracetwill_inverse_transform_2d_rows(ptr %block, i64 %block_len, i32
   ret i32 %answer
 }
 
+define i32 @bracetwill_inverse_transform_2d_32(ptr %block, i64 %block_len, i32 %n, i8 zeroext %tx_type, i1 zeroext %lossless) {
+  %block.list = alloca { ptr, i64 }
+  store ptr %block, ptr %block.list
+  %block.count = getelementptr { ptr, i64 }, ptr %block.list, i32 0, i32 1
+  store i64 %block_len, ptr %block.count
+  %answer = call i32 @"exports::bracetwill_inverse_transform_2d_32"(ptr %block.list, i32 %n, i8 %tx_type, i1 zeroext %lossless)
+  ret i32 %answer
+}
+
 define i32 @bracetwill_reconstruct_block(ptr %samples, i64 %samples_len, i64 %width, i64 %height, i64 %stride, i64 %x, i64 %y, i32 %tx_sz, ptr %tokens, i64 %tokens_len, i32 %dc_quant, i32 %ac_quant, i8 zeroext %tx_type, i1 zeroext %lossless, i32 %bit_depth) {
   %samples.list = alloca { ptr, i64 }
   store ptr %samples, ptr %samples.list

@@ -70,6 +70,27 @@ static void drivers_refuse(driver *call) {
   equal(call(NULL, 0, 2, 0, false), BRACETWILL_ANSWER_LENGTH, "driver: no list");
 }
 
+/* The 32-bit engine: one number at the ends of 16 bits and one past them; the block that turned a decoder over. */
+static void engine32(void) {
+  static int64_t other[MOST];
+  const int64_t ends[][2] = {{32767, BRACETWILL_ANSWER_DONE}, {-32768, BRACETWILL_ANSWER_DONE}, {32768, BRACETWILL_ANSWER_NARROW}, {-32769, BRACETWILL_ANSWER_NARROW}};
+  for (uint32_t n = 2; n <= 5; n++)
+    for (size_t e = 0; e < 4; e++) {
+      zeros();
+      list[0] = ends[e][0];
+      copy(other, list, sizeof list);
+      equal(bracetwill_inverse_transform_2d_32(list, MOST, n, 0, false), (uint32_t)ends[e][1], "engine32: the ends of 16 bits");
+      if (ends[e][1] == 0) equal(bracetwill_inverse_transform_2d(other, MOST, n, 0, false), BRACETWILL_ANSWER_DONE, "engine32: the driver");
+      check(same(list, other, sizeof list), "engine32: the block", (long long)n, (long long)e);
+    }
+  const int64_t tokens[] = {1, 1, 2, 2, 2, 2, 2, 2, 2, 3, 3, 4, 4, 6, 11, 32};
+  zeros();
+  for (size_t k = 0; k < 16; k++) list[2 * k + 1] = tokens[k] * 1828 / 2;
+  copy(other, list, sizeof list);
+  equal(bracetwill_inverse_transform_2d_32(list, 1024, 5, 0, false), BRACETWILL_ANSWER_NARROW, "engine32: a wrapped edge");
+  check(same(list, other, sizeof list), "engine32: as lent", 0, 0);
+}
+
 /* DC-only blocks: 16 gives 1, 14 gives 0, -16 gives 0, 32 gives 1. */
 static void drivers_known(driver *call) {
   const int64_t of[][2] = {{16, 1}, {14, 0}, {-16, 0}, {32, 1}};
@@ -965,6 +986,8 @@ int main(void) {
   drivers_refuse(bracetwill_inverse_transform_2d);
   drivers_refuse(bracetwill_inverse_transform_2d_reference);
   drivers_refuse(driver_rows);
+  drivers_refuse(bracetwill_inverse_transform_2d_32);
+  engine32();
   drivers_known(bracetwill_inverse_transform_2d);
   drivers_known(bracetwill_inverse_transform_2d_reference);
   drivers_known(driver_rows);

@@ -2,7 +2,7 @@
 
 use crate::idct_open::open;
 use crate::line::{Call, Outcome};
-use crate::{best, fwd_transform, idct, idct_open, intra, reconstruct, rules, vbk};
+use crate::{best, fwd_transform, idct, idct_open, intra, narrow, reconstruct, rules, vbk};
 
 fn numbers(list: impl IntoIterator<Item = impl Into<i64>>) -> Vec<i64> {
     list.into_iter().map(Into::into).collect()
@@ -104,6 +104,21 @@ pub fn ask(c: &Call) -> Outcome {
                     idct::inverse_transform_2d(&mut block, n, tx_type, lossless);
                 } else {
                     idct::inverse_transform_2d_reference(&mut block, n, tx_type, lossless);
+                }
+            }
+            answered(answer, block)
+        }
+        37 => {
+            let (n, tx_type, lossless) = (a(0) as u32, a(1) as u8, a(2) != 0);
+            let mut block = c.lists[0].clone();
+            let mut answer = rules::driver(n, tx_type, lossless, &block);
+            if answer == 0 {
+                match narrow::process(n, tx_type, lossless, &block) {
+                    Ok(after) => {
+                        idct::inverse_transform_2d(&mut block, n, tx_type, lossless);
+                        assert_eq!(block, after, "the Rust and the process of docs/REFERENCE.md part");
+                    }
+                    Err(_) => answer = 18,
                 }
             }
             answered(answer, block)

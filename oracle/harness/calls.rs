@@ -21,6 +21,7 @@ mod line;
 #[cfg(linked)]
 mod linked;
 mod lists;
+mod narrow;
 mod rng;
 mod rules;
 mod vbk;
@@ -32,6 +33,7 @@ calls check [KIND]      read calls with outcomes, ask again, print the count of 
 calls gen SEED COUNT    print the systematic calls and COUNT random ones, with their outcomes
 calls files SEED COUNT DIR   write the systematic VBK files and COUNT random ones, each with its expected output
 calls lists SEED        print the fixed list
+calls edges SEED COUNT  of COUNT blocks at the edge of 16 bits, of each size and type: in which step the number past it leaves
 calls digest SEED COUNT print the digest of COUNT calls of each kind
 calls best SEED COUNT   print calls of the quantizer with the tokens that trying every one gives: small limits, then COUNT coefficients
 calls compare SEED COUNT DIR SIDE..   generated cases to each side; what is found goes to DIR
@@ -167,6 +169,7 @@ fn main() {
             println!("{k} files");
         }
         Some("lists") => lists::write_all(number(&args, 1), &mut BufWriter::new(std::io::stdout())),
+        Some("edges") => cases::narrow_edges(&mut rng::Rng::new(number(&args, 1)), number(&args, 2)),
         Some("digest") => digest::print(number(&args, 1), number(&args, 2)),
         Some("best") => {
             let mut out = BufWriter::with_capacity(1 << 20, std::io::stdout());

@@ -3,7 +3,8 @@
 
 use crate::line::Call;
 use crate::rng::Rng;
-use crate::{best, files, rules, vbk};
+use crate::{best, files, narrow, rules, vbk};
+use std::collections::BTreeMap;
 
 const ROUNDED: i64 = 1 << 62; // what Round2 takes
 const LEAF: i64 = 1 << 46; // operands of B, H, SB and the WHT
@@ -282,6 +283,179 @@ fn driver(r: &mut Rng, kind: u32) -> Call {
         block[k] = beyond(r, COEF);
     }
     driver_call(kind, n, tx_type, lossless, block)
+}
+
+// ---- the 32-bit engine: blocks at the edge of its condition ----
+
+/// A direction in which a block grows: place k of the block at scale c is direction[k] * c / 2^16, so that one more of c is at most one more
+/// of a number.
+fn direction(r: &mut Rng, n0: usize) -> Vec<i64> {
+    const FULL: i64 = 1 << 16;
+    let mut v = vec![0; n0 * n0];
+    let at = |r: &mut Rng| if r.once_in(3) { r.range(-FULL, FULL) } else { r.pick(&[FULL, -FULL]) };
+    let line = r.below(n0 as u64) as usize;
+    match r.below(10) {
+        0 => v.iter_mut().for_each(|x| *x = at(r)),
+        // a row, a column, or every other number of one: steps in the middle leave first
+        1 => (0..n0).for_each(|j| v[line * n0 + j] = at(r)),
+        2 => (0..n0).for_each(|i| v[i * n0 + line] = at(r)),
+        3 => {
+            let (from, step) = r.pick(&[(0, 2), (1, 2), (1, 4), (2, 4), (3, 4)]);
+            (from..n0).step_by(step).for_each(|j| v[line * n0 + j] = at(r));
+        }
+        4 => {
+            let (from, step) = r.pick(&[(0, 2), (1, 2), (1, 4), (2, 4), (3, 4)]);
+            (from..n0).step_by(step).for_each(|i| v[i * n0 + line] = at(r));
+        }
+        5 => {
+            for _ in 0..r.range(1, 5) {
+                let k = r.below((n0 * n0) as u64) as usize;
+                v[k] = at(r);
+            }
+        }
+        // pairs that step 2 of the DCT of this size rotates, one or two of them: the first steps leave first
+        way @ 6..=7 => {
+            let bits = n0.trailing_zeros();
+            let i = r.below(n0 as u64 / 4) as usize;
+            let pairs = [i, i ^ 1].map(|i| [n0 / 2 + i, n0 - 1 - i]);
+            for k in pairs[..r.range(1, 2) as usize].iter().flatten().filter(|k| **k < n0) {
+                let k = (*k as u32).reverse_bits() as usize >> (32 - bits);
+                v[if way == 6 { line * n0 + k } else { k * n0 + line }] = at(r);
+            }
+        }
+        // two to four numbers of a row or a column: rotations leave first
+        way => {
+            for _ in 0..r.range(2, 4) {
+                let k = r.below(n0 as u64) as usize;
+                v[if way == 8 { line * n0 + k } else { k * n0 + line }] = at(r);
+            }
+        }
+    }
+    v
+}
+
+/// The greatest k below `most` with `good(k)` before one without; good(0) holds and good(most) does not.
+fn last_good(most: usize, good: impl Fn(usize) -> bool) -> usize {
+    let (mut low, mut high) = (0, most);
+    while high - low > 1 {
+        let mid = (low + high) / 2;
+        if good(mid) { low = mid } else { high = mid }
+    }
+    low
+}
+
+/// Two blocks that differ by one in one number: the first keeps the condition, the second leaves it, and where.
+fn edge(r: &mut Rng, n: u32, tx_type: u8, lossless: bool) -> (Vec<i64>, Vec<i64>, narrow::Left) {
+    let good = |b: &[i64]| narrow::process(n, tx_type, lossless, b).is_ok();
+    loop {
+        let d = direction(r, side(n));
+        let at = |c: usize| -> Vec<i64> { d.iter().map(|x| x * c as i64 / 65_536).collect() };
+        if good(&at(65_536)) {
+            continue;
+        }
+        let c = last_good(65_536, |c| good(&at(c)));
+        let (low, high) = (at(c), at(c + 1));
+        let mixed = |k: usize| -> Vec<i64> { high[..k].iter().chain(&low[k..]).copied().collect() };
+        let k = last_good(d.len(), |k| good(&mixed(k)));
+        let (inside, outside) = (mixed(k), mixed(k + 1));
+        if let Err(left) = narrow::process(n, tx_type, lossless, &outside) {
+            return (inside, outside, left);
+        }
+    }
+}
+
+fn engine32(r: &mut Rng) -> Call {
+    let (n, tx_type, lossless) = kind_of_block(r);
+    if r.once_in(6) {
+        let mut c = driver(r, 37);
+        c.lists[0].iter_mut().for_each(|v| *v %= 40_000);
+        return c;
+    }
+    let (inside, outside, _) = edge(r, n, tx_type, lossless);
+    let mut block = if r.once_in(2) { inside } else { outside };
+    if r.once_in(16) {
+        let more = r.range(1, 40) as usize;
+        block.extend(tail(r, more, i64::MAX));
+    }
+    driver_call(37, n, tx_type, lossless, block)
+}
+
+/// A call that 18 refuses, where `others` do not come before it.
+fn refused_engine32(r: &mut Rng, wanted: &[u8]) -> Call {
+    let others: Vec<u8> = wanted.iter().copied().filter(|a| *a != 18).collect();
+    if others.is_empty() {
+        let n = r.pick(&[2, 2, 3, 4]);
+        let tx_type = r.below(4) as u8;
+        let (_, outside, _) = edge(r, n, tx_type, false);
+        return driver_call(37, n, tx_type, false, outside);
+    }
+    let mut c = refused_driver(r, 37, &others);
+    if wanted.contains(&18) && !c.lists[0].is_empty() {
+        let k = r.below(c.lists[0].len() as u64) as usize;
+        if c.lists[0][k].unsigned_abs() <= rules::COEF_LIMIT {
+            c.lists[0][k] = r.pick(&[32_768, -32_769, 1 << 20, COEF]);
+        }
+    }
+    c
+}
+
+/// Row 0 of the block that turned a decoder over (docs/REFERENCE.md): tokens at the odd columns, AC quantizer 1,828, halved at 32 by 32.
+pub fn turned_over() -> Vec<i64> {
+    let mut block = vec![0; 1024];
+    for (i, t) in [1, 1, 2, 2, 2, 2, 2, 2, 2, 3, 3, 4, 4, 6, 11, 32].into_iter().enumerate() {
+        block[2 * i + 1] = t * 1_828 / 2;
+    }
+    block
+}
+
+/// How many of `count` blocks at the edge, of each size and type, leave it in which step; a line for each.
+#[allow(dead_code)]
+pub fn narrow_edges(r: &mut Rng, count: u64) {
+    every_block(&mut |n, tx_type, lossless| {
+        let mut met: BTreeMap<(bool, u32, &str), u64> = BTreeMap::new();
+        for _ in 0..count {
+            let (_, _, left) = edge(r, n, tx_type, lossless);
+            *met.entry((left.column, left.n, left.step)).or_default() += 1;
+        }
+        for ((column, level, step), times) in met {
+            let pass = if column { "column" } else { "row" };
+            println!("n {n} type {tx_type} lossless {} {pass} process of {level} step {step}: {times}", u8::from(lossless));
+        }
+    });
+}
+
+/// The 32-bit engine: both sides of the edge for every step of every transform, in rows and in columns, as far as a search finds them;
+/// one number at the ends of 16 bits and one past them, in every place; what stands past the block.
+fn systematic_engine32(r: &mut Rng, out: &mut dyn FnMut(Call)) {
+    every_block(&mut |n, tx_type, lossless| {
+        let count = side(n) * side(n);
+        let mut met: BTreeMap<(bool, u32, &str), u32> = BTreeMap::new();
+        for _ in 0..[400, 400, 300, 250][n as usize - 2] {
+            let (inside, outside, left) = edge(r, n, tx_type, lossless);
+            let times = met.entry((left.column, left.n, left.step)).or_default();
+            *times += 1;
+            if *times <= 4 {
+                out(driver_call(37, n, tx_type, lossless, inside));
+                out(driver_call(37, n, tx_type, lossless, outside));
+            }
+        }
+        for k in (0..count).step_by((count / 64).max(1)) {
+            for v in [32_767, -32_768, 32_768, -32_769] {
+                let mut block = vec![0; count];
+                block[k] = v;
+                out(driver_call(37, n, tx_type, lossless, block));
+            }
+        }
+        for v in [COEF, -COEF, COEF + 1, -COEF - 1] {
+            let mut block = vec![0; count];
+            block[count - 1] = v;
+            out(driver_call(37, n, tx_type, lossless, block));
+        }
+        let mut block = fill(r, side(n), &|_| 100);
+        block.extend([i64::MIN, i64::MAX, 40_000]);
+        out(driver_call(37, n, tx_type, lossless, block));
+        out(driver_call(37, n, tx_type, lossless, vec![3; count - 1]));
+    });
 }
 
 /// One past the limit, or far past it.
@@ -1086,7 +1260,7 @@ pub fn example() -> Recon {
 // ---- the systematic part ----
 
 /// The numbers that a call can refuse with, in their order.
-pub const REFUSALS: [(u32, &[u8]); 11] = [
+pub const REFUSALS: [(u32, &[u8]); 12] = [
     (20, &[2, 3, 4, 6, 9]),
     (21, &[2, 3, 4, 6, 9]),
     (22, &[1, 2, 3, 4, 5, 6, 7, 8, 9]),
@@ -1098,6 +1272,7 @@ pub const REFUSALS: [(u32, &[u8]); 11] = [
     (33, &[1, 2, 5, 6, 16, 8, 9]),
     (34, &[2, 3, 4, 6, 9]),
     (35, &[1, 2, 6, 13, 14, 17]),
+    (37, &[2, 3, 4, 6, 9, 18]),
 ];
 
 /// A call to which each of these numbers applies (3 and 4 never do together).
@@ -1110,6 +1285,7 @@ pub fn refused(r: &mut Rng, kind: u32, wanted: &[u8]) -> Call {
         32 => refused_summary(r, wanted),
         33 => refused_replaced(r, wanted),
         35 => refused_writing(r, wanted),
+        37 => refused_engine32(r, wanted),
         _ => refused_quantize(r, kind, wanted),
     }
 }
@@ -1614,6 +1790,7 @@ pub fn worked(out: &mut dyn FnMut(Call)) {
     }
     out(files::as_call(&files::worked()));
     worked_rows(out);
+    out(driver_call(37, 5, 0, false, turned_over()));
 }
 
 /// Rows 0 and 2 of four; the last row alone; place 0 alone and nothing under each transform that there is; a row that a token empties; the token 1 of
@@ -1650,6 +1827,7 @@ pub fn systematic(r: &mut Rng, out: &mut dyn FnMut(Call)) {
     systematic_report(r, out);
     systematic_rows(r, out);
     systematic_writing(out);
+    systematic_engine32(r, out);
     for (kind, numbers) in REFUSALS {
         sets(r, numbers, 5, &mut |r, wanted| out(refused(r, kind, wanted)));
     }
@@ -1671,7 +1849,7 @@ fn file(r: &mut Rng) -> Call {
 
 /// One random call. Most are of the calls that do the work.
 pub fn random(r: &mut Rng) -> Call {
-    match r.below(111) {
+    match r.below(113) {
         0 => round2(r),
         1 => brev(r),
         2 => call(r.pick(&[3, 4]), vec![angle(r)], vec![]),
@@ -1696,6 +1874,7 @@ pub fn random(r: &mut Rng) -> Call {
         100..=102 => driver(r, 34),
         103..=104 => writing(r),
         105 => one_token(r),
+        106..=107 => engine32(r),
         _ => {
             let (kind, numbers) = r.pick(&REFUSALS);
             let wanted: Vec<u8> = (0..r.range(1, 3)).map(|_| r.pick(numbers)).collect();

@@ -13,7 +13,7 @@ mod archive;
 use archive::*;
 
 /// The kinds that are exported.
-const KINDS: [u32; 13] = [20, 21, 22, 23, 24, 25, 26, 30, 31, 32, 33, 34, 35];
+const KINDS: [u32; 14] = [20, 21, 22, 23, 24, 25, 26, 30, 31, 32, 33, 34, 35, 37];
 
 const MARGIN: usize = 8;
 
@@ -71,9 +71,13 @@ fn ours(c: &Call) -> (Outcome, bool) {
         (Outcome { nums: vec![answer.into()], lists: vec![l.list().to_vec()] }, kept)
     };
     match c.kind {
-        20 | 21 => {
+        20 | 21 | 37 => {
             let mut l = first();
-            let call = if c.kind == 20 { bracetwill_inverse_transform_2d } else { bracetwill_inverse_transform_2d_reference };
+            let call = match c.kind {
+                20 => bracetwill_inverse_transform_2d,
+                21 => bracetwill_inverse_transform_2d_reference,
+                _ => bracetwill_inverse_transform_2d_32,
+            };
             let answer = unsafe { call(l.at(), l.len(), a(0) as u32, a(1) as u8, a(2) != 0) };
             answered(answer, l)
         }

@@ -19,8 +19,9 @@ fn class(c: &Call, o: &Outcome) -> Vec<i128> {
         1 => vec![c.args[1]],
         5 | 7 => vec![c.args[2].rem_euclid(128) / 8, c.args[3]],
         10..=12 => vec![c.args[0]],
-        20 | 21 if answer == 0 => vec![0, c.args[0], if c.args[2] == 1 { 9 } else { c.args[1] }],
-        20 | 21 => vec![answer, small(c.args[0])],
+        20 | 21 | 37 if answer == 0 => vec![0, c.args[0], if c.args[2] == 1 { 9 } else { c.args[1] }],
+        37 if answer == 18 => vec![18, c.args[0], if c.args[2] == 1 { 9 } else { c.args[1] }],
+        20 | 21 | 37 => vec![answer, small(c.args[0])],
         22 if answer == 0 => {
             let (n0, w, h) = (4i128 << c.args[2], c.args[8], c.args[9]);
             let outside = c.args[0] >= w || c.args[1] >= h;
@@ -75,6 +76,12 @@ fn room(c: &Call, o: &Outcome) -> (usize, usize) {
         6 | 8 => (260, 60),
         10 | 11 => (220, 50),
         12 => (100, 60),
+        37 if answer == 0 || answer == 18 => match c.args[0] {
+            2 => (300, 12),
+            3 => (700, 8),
+            4 => (2_200, 3),
+            _ => (9_000, 2),
+        },
         20 | 21 if answer == 0 => match c.args[0] {
             2 => (300, 20),
             3 => (600, 14),
@@ -105,7 +112,7 @@ fn room(c: &Call, o: &Outcome) -> (usize, usize) {
         32..=34 => (300, 3),
         35 if answer == 0 => (3_000, 8),
         35 => (1_500, 3),
-        20 | 21 => (300, 3),
+        20 | 21 | 37 => (300, 3),
         22 => (300, 2),
         23 if answer == 0 => (300, 150),
         24 if answer == 0 => (250, 12),

@@ -26,6 +26,7 @@ unsafe extern "C" {
         lossless: bool,
         rows: *mut u32,
     ) -> u32;
+    pub fn bracetwill_inverse_transform_2d_32(block: *mut i64, block_len: usize, n: u32, tx_type: u8, lossless: bool) -> u32;
     pub fn bracetwill_reconstruct_block(
         samples: *mut u16,
         samples_len: usize,

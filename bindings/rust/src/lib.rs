@@ -170,6 +170,30 @@ pub mod idct {
         Ok(rows)
     }
 
+    /// [`try_inverse_transform_2d`] with no number wider than 32 bits on the way: the same block where every coefficient, and every number
+    /// that the recursive process loads into T or stores there, lies in −32,768 to 32,767. Elsewhere 18, after the driver's 2, 3, 4, 6
+    /// and 9, and the block stays.
+    ///
+    /// ```
+    /// use bracetwill::Refusal;
+    /// use bracetwill::idct::{DCT_DCT, try_inverse_transform_2d_32};
+    ///
+    /// let mut block = [0; 16];
+    /// block[0] = 16;
+    /// assert_eq!(try_inverse_transform_2d_32(&mut block, 2, DCT_DCT, false), Ok(()));
+    /// assert_eq!(block, [1; 16]);
+    ///
+    /// // each fits 16 bits, and their sum on the way does not
+    /// let mut block = [0; 16];
+    /// (block[0], block[2]) = (32_767, 32_767);
+    /// assert_eq!(try_inverse_transform_2d_32(&mut block, 2, DCT_DCT, false), Err(Refusal::Narrow));
+    /// assert_eq!(block[..3], [32_767, 0, 32_767]);
+    /// ```
+    pub fn try_inverse_transform_2d_32(dequant: &mut [i64], n: u32, tx_type: u8, lossless: bool) -> Result<(), Refusal> {
+        // SAFETY: as above.
+        answer(unsafe { archive::bracetwill_inverse_transform_2d_32(dequant.as_mut_ptr(), dequant.len(), n, tx_type, lossless) })
+    }
+
     /// [`try_inverse_transform_2d`]; a refusal panics.
     ///
     /// ```
@@ -206,6 +230,17 @@ pub mod idct {
     #[track_caller]
     pub fn inverse_transform_2d_rows(dequant: &mut [i64], n: u32, tx_type: u8, lossless: bool) -> u32 {
         taken("inverse_transform_2d_rows", try_inverse_transform_2d_rows(dequant, n, tx_type, lossless))
+    }
+
+    /// [`try_inverse_transform_2d_32`]; a refusal panics.
+    ///
+    /// ```should_panic
+    /// // a coefficient past 16 bits
+    /// bracetwill::idct::inverse_transform_2d_32(&mut [32_768; 16], 2, 0, false);
+    /// ```
+    #[track_caller]
+    pub fn inverse_transform_2d_32(dequant: &mut [i64], n: u32, tx_type: u8, lossless: bool) {
+        taken("inverse_transform_2d_32", try_inverse_transform_2d_32(dequant, n, tx_type, lossless));
     }
 }
 

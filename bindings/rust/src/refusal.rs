@@ -39,10 +39,12 @@ pub enum Refusal {
     Place = 16,
     /// Answer 17: the buffer is too short for the file.
     Room = 17,
+    /// Answer 18: a number of the recursive process leaves 16 bits (the 32-bit engine alone).
+    Narrow = 18,
 }
 
 /// Every refusal with its meaning, in the order of the numbers.
-pub(crate) const REFUSALS: [(Refusal, &str); 17] = [
+pub(crate) const REFUSALS: [(Refusal, &str); 18] = [
     (Refusal::Depth, "bit depth is not 8, 10 or 12"),
     (Refusal::Size, "size number above 3 (for the 2D drivers: n outside 2 to 5)"),
     (Refusal::LosslessSize, "lossless with a size other than 4 by 4"),
@@ -60,4 +62,5 @@ pub(crate) const REFUSALS: [(Refusal, &str); 17] = [
     (Refusal::Report, "the block takes the total of all counts past 4,294,967,295, or a class sum is above its count times 262,210"),
     (Refusal::Place, "the place is at or past the block's end"),
     (Refusal::Room, "the buffer is too short for the file"),
+    (Refusal::Narrow, "a number of the recursive process leaves 16 bits (the 32-bit engine alone)"),
 ];

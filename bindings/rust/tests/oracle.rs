@@ -18,6 +18,8 @@ mod cases;
 mod files;
 #[path = "../../../oracle/harness/line.rs"]
 mod line;
+#[path = "../../../oracle/harness/narrow.rs"]
+mod narrow;
 #[path = "../../../oracle/harness/rng.rs"]
 mod rng;
 #[path = "../../../oracle/harness/rules.rs"]
@@ -321,6 +323,20 @@ fn compare(c: &Call) -> Option<(&'static str, bool)> {
                 )
             }
         }
+        37 => {
+            let (n, tx_type, lossless) = (a(0) as u32, a(1) as u8, a(2) != 0);
+            let mut want = rules::driver(n, tx_type, lossless, &c.lists[0]);
+            if want == 0 && narrow::process(n, tx_type, lossless, &c.lists[0]).is_err() {
+                want = 18;
+            }
+            in_place(
+                &c.lists[0],
+                want,
+                |l| idct::inverse_transform_2d(l, n, tx_type, lossless),
+                |l| inverse::inverse_transform_2d_32(l, n, tx_type, lossless),
+                |l| inverse::try_inverse_transform_2d_32(l, n, tx_type, lossless),
+            )
+        }
         22 => recon(c),
         23 => in_place(&c.lists[0], rules::forward_wht(&c.lists[0]), fwd_transform::forward_wht_2d, fwd::forward_wht_2d, fwd::try_forward_wht_2d),
         24 => {
@@ -383,7 +399,7 @@ fn main() {
         println!("{name:<32} {a:>7} alike {b:>4} not");
         (same, differ) = (same + a, differ + b);
     }
-    assert_eq!(tally.len(), 13, "every public call is compared");
+    assert_eq!(tally.len(), 14, "every public call is compared");
     println!("{same} passed, {differ} failed");
     std::process::exit(i32::from(differ != 0));
 }

@@ -3,7 +3,7 @@ use mathlib.Core.Bool.{Bool, cond}
 use mathlib.Core.List.{List, [], _∷_}
 use Prim.Native.Nat.{ℕ}
 use Rattle.answers.specs.declared.Answer.{Answer}
-use Rattle.answers.specs.declared.Answer.the-variants.{Done, Depth, Size, LosslessSize, TxType, Quantizer, Length, Plane, Token, Coefficient, Mark, Version, CutShort, TooLarge, LosslessByte, Report, Place, Room}
+use Rattle.answers.specs.declared.Answer.the-variants.{Done, Depth, Size, LosslessSize, TxType, Quantizer, Length, Plane, Token, Coefficient, Mark, Version, CutShort, TooLarge, LosslessByte, Report, Place, Room, Narrow}
 
 -- the number of an answer
 abbrev pub number : Answer → ℕ
@@ -25,6 +25,7 @@ number LosslessByte = 14
 number Report = 15
 number Place = 16
 number Room = 17
+number Narrow = 18
 
 -- of numbers with their tests: the first number whose test holds, and 0 where none does
 abbrev pub lowest : List (ℕ × Bool) → ℕ

@@ -12,7 +12,7 @@ use libc::STDIN_FILENO;
 use libc::STDOUT_FILENO;
 
 // Kinds of calls. A new one is added at the end.
-const KINDS: u64 = 12;
+const KINDS: u64 = 13;
 
 // The digest after one call more.
 fn one(kind: u64, key: u64, digest: u64) -> u64 {
@@ -28,7 +28,8 @@ fn one(kind: u64, key: u64, digest: u64) -> u64 {
         8 => samples::reconstruct_report(key, digest),
         9 => rows::row_summary(key, digest),
         10 => rows::replace_token(key, digest),
-        _ => rows::inverse_transform_2d_rows(key, digest),
+        11 => rows::inverse_transform_2d_rows(key, digest),
+        _ => drivers::engine32(key, digest),
     }
 }
 
@@ -57,7 +58,8 @@ fn name(kind: u64) -> bool {
         8 => io::write_all(STDOUT_FILENO, b"reconstruct_block_report       "),
         9 => io::write_all(STDOUT_FILENO, b"row_summary                    "),
         10 => io::write_all(STDOUT_FILENO, b"replace_token                  "),
-        _ => io::write_all(STDOUT_FILENO, b"inverse_transform_2d_rows      "),
+        11 => io::write_all(STDOUT_FILENO, b"inverse_transform_2d_rows      "),
+        _ => io::write_all(STDOUT_FILENO, b"inverse_transform_2d_32        "),
     }
 }
 

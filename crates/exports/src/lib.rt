@@ -13,6 +13,7 @@ ghost use Rattle.answers.specs.Limits.{codeable};
 ghost use Rattle.idct.specs.Driver.{answerOf, blockAfter};
 ghost use Rattle.summary.specs.Summary.{setRows, firstOf, lastOf};
 ghost use Rattle.summary.specs.Replace.{answerOf as replaceAnswer};
+ghost use Rattle.idct32.specs.Engine.{answerOf32, blockAfter32};
 ghost use Rattle.reconstruct.specs.Reconstruct.{answerOf as reconstructAnswer, samplesAfter};
 ghost use Rattle.report.specs.Report.{answerOf as reportAnswer};
 ghost use Rattle.fwd_transform.specs.ForwardWht.{whtAnswer, whtAfter};
@@ -150,6 +151,20 @@ pub extern "C" fn bracetwill_replace_token(
         AcQuant(ac_quant),
         bit_depth,
     );
+    answers::code(a)
+}
+
+// The 32-bit engine: the 2D driver for blocks that stay within 16 bits on the way.
+#[no_mangle]
+pub extern "C" fn bracetwill_inverse_transform_2d_32(
+    block: &mut [i64],
+    n: u32,
+    tx_type: u8,
+    lossless: bool,
+) -> u32
+    ensures { λ r. ⌜ Told answerOf32 blockAfter32 (record { block = now (block .entry); n = n; tx-type = «tx_type»; lossless = lossless }) r (now (block .exit)) ⌝ }
+{
+    let a = idct32::inverse_transform_2d_32(block, n, tx_type, lossless);
     answers::code(a)
 }
 

@@ -1,6 +1,6 @@
 mod Three
-mod Table
+pub mod Table
 mod Exchange
-mod Straight
+pub mod Straight
 mod Four
-mod Arrays
+pub mod Arrays

@@ -35,7 +35,7 @@ fn side(n: u32) -> usize
 }
 
 // Bits that the columns are rounded by.
-fn rounding_bits(n: u32) -> u32
+pub fn rounding_bits(n: u32) -> u32
     requires { ⌜ (2 ≤ n) × (n ≤ 5) ⌝ }
     ensures { λ r. ⌜ (r ≡ bits n) × (1 ≤ r) × (r ≤ 30) ⌝ }
 {
@@ -47,7 +47,7 @@ fn rounding_bits(n: u32) -> u32
 }
 
 // Types 0 and 1 have DCT rows.
-fn row_dct(tx_type: u8) -> bool
+pub fn row_dct(tx_type: u8) -> bool
     ensures { λ r. ⌜ r ≡ eqb «tx_type» 0 || eqb «tx_type» 1 ⌝ }
 {
     if tx_type == 0 {
@@ -57,7 +57,7 @@ fn row_dct(tx_type: u8) -> bool
 }
 
 // Types 0 and 2 have DCT columns.
-fn column_dct(tx_type: u8) -> bool
+pub fn column_dct(tx_type: u8) -> bool
     ensures { λ r. ⌜ r ≡ eqb «tx_type» 0 || eqb «tx_type» 2 ⌝ }
 {
     if tx_type == 0 {
@@ -67,7 +67,7 @@ fn column_dct(tx_type: u8) -> bool
 }
 
 // The answer as far as it needs no number of the block, of which there are `count`.
-fn shape(count: usize, n: u32, tx_type: u8, lossless: bool) -> Answer
+pub fn shape(count: usize, n: u32, tx_type: u8, lossless: bool) -> Answer
     ensures { λ r. ⌜ number r ≡ shapeOf count n «tx_type» lossless ⌝ }
 {
     if answers::bad_side(n) {

@@ -3,6 +3,7 @@ pub mod Tests
 pub mod When
 pub mod Rows
 pub mod Report
+pub mod Engine32
 pub mod Files
 pub mod Unique
 pub mod Numbers

@@ -84,7 +84,7 @@ module _ (When Then : ℕ → Type 0) (a n : ℕ) (b : Bool) (e : Exactly When a
   only-nothing q (yes z) false f k t = not-then f k (e .only-done z k) t
   only-nothing q (no ne) c f k t = absurd (ne (sym (own ne) ∙ q))
 
-  and-last : Exactly Then (cond (eqb a 0) (lowest ((n, b) ∷ [])) a)
+  pub and-last : Exactly Then (cond (eqb a 0) (lowest ((n, b) ∷ [])) a)
   unfolding answer
   and-last =
       record {

@@ -15,6 +15,7 @@ use Rattle.summary.specs.Summary.{setRows, firstOf, lastOf, summarized}
 use Rattle.summary.specs.Replace as Z
 use Rattle.idct.specs.Driver as D
 use Rattle.idct.specs.Rows.{Rowed}
+use Rattle.idct32.specs.Engine.{answerOf32, Driven32}
 use Rattle.reconstruct.specs.Reconstruct as R
 use Rattle.report.specs.Report as P
 use Rattle.fwd_transform.specs.Quantize as Q
@@ -73,6 +74,10 @@ row-told-unique row r t p q = same p q
 pub replace-unique : (u : Z.Input) (a b : Answer) (s t : List ℤ) (m n : ℕ) → Z.Replaced u a s m → Z.Replaced u b t n → (a ≡ b) × (s ≡ t) × (m ≡ n)
 replace-unique u a b s t m n p q =
     (same-answer (Z.answerOf u) a b (p .answered) (q .answered), same (p .written) (q .written), same (p .kept) (q .kept))
+
+-- `inverse_transform_2d_32`
+pub engine32-unique : (u : D.Input) (a b : Answer) (s t : List ℤ) → Driven32 u a s → Driven32 u b t → (a ≡ b) × (s ≡ t)
+engine32-unique u a b s t p q = (same-answer (answerOf32 u) a b (p .answered) (q .answered), same (p .written) (q .written))
 
 -- `reconstruct_block`
 pub reconstruct-unique : (u : R.Input) (a b : Answer) (s t : List ℕ) → R.Reconstructed u a s → R.Reconstructed u b t → (a ≡ b) × (s ≡ t)

@@ -3,9 +3,16 @@ use mathlib.Core.Path.{_≡_}
 use mathlib.Core.Bool.{Bool, true, false}
 use mathlib.Core.List.{List}
 use Prim.Native.Nat.{ℕ, _+_, _*_, _≤_, _<_}
-use lib.IntN.{ℤ, pos, natAbs}
-use lib.ListN.{length, getD}
-use Rattle.answers.specs.Sizes.{area}
+use lib.IntN.{ℤ, pos, negsuc, natAbs}
+use lib.ListN.{length, getD, take}
+use Rattle.whole.specs.Steps.{run}
+use Rattle.answers.specs.Sizes.{side, area}
+use Rattle.steps.specs.Step.{step}
+use Rattle.steps.specs.Step2.{step2, fresh}
+use Rattle.dct.specs.Dct.{dctRow}
+use Rattle.adst.specs.Adst.{adstSteps}
+use Rattle.wht.specs.Wht.{whtRow}
+use Rattle.blocks.specs.Inverse.{Pass, Dct, Adst, Wht}
 
 -- 1: bit depth is not 8, 10 or 12
 pub record NoDepth (depth : ℕ) : Type 0 where
@@ -50,3 +57,25 @@ pub record OtherCount (sizes counts : List ℕ) : Type 0 where
   pub place : ℕ
   pub listed : place < length counts
   pub other : getD counts place 0 ≡ area (getD sizes place 0 + 2) → ⊥
+
+-- 18: above 32,767, or below −32,768; negsuc n is −1 − n
+pub data Outside : ℤ → Type 0 where
+  above : {n : ℕ} → 32767 < n → Outside (pos n)
+  below : {n : ℕ} → 32767 < n → Outside (negsuc n)
+
+-- 18: one of the first n numbers of a list is
+pub record SomeOutside (n : ℕ) (t : List ℤ) : Type 0 where
+  pub place : ℕ
+  pub listed : place < n
+  pub outside : Outside (getD t place (pos 0))
+
+-- T of a line after the first k steps of its transform; after none it is the line as it is loaded
+unfoldable pub after : Pass → ℕ → ℕ → List ℤ → List ℤ
+after Dct n k t = run step (take k (dctRow n)) t
+after Adst n k t = run step2 (take k (adstSteps n)) (fresh t) .T
+after (Wht shift) n k t = run step (take k (whtRow shift)) t
+
+-- 18: on the way through a line's transform a number of T is outside
+pub record LineLeaves (p : Pass) (n : ℕ) (t : List ℤ) : Type 0 where
+  pub steps : ℕ
+  pub some : SomeOutside (side n) (after p n steps t)

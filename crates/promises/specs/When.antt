@@ -6,7 +6,9 @@ use lib.IntN.{ℤ, natAbs}
 use lib.ListN.{length}
 use Rattle.answers.specs.Limits.{COEF_LIMIT, WHT_LIMIT, SIDE_LIMIT, LIST_LIMIT, FILE_LIMIT, AREA_LIMIT, codeable}
 use Rattle.quant.specs.Places.{dequantAll}
-use Rattle.answers.specs.Sizes.{area}
+use Rattle.answers.specs.Sizes.{side as n0, area}
+use Rattle.blocks.specs.Block.{row, column, rows}
+use Rattle.blocks.specs.Inverse.{apply, rowPass, columnPass}
 use Rattle.summary.specs.Replace as Z
 use Rattle.idct.specs.Driver as D
 use Rattle.reconstruct.specs.Reconstruct as R
@@ -18,7 +20,7 @@ use Rattle.vbk_read.specs.Header.{HEADER_BYTES, versionOf, depthOf, planeArea, 
 use Rattle.vbk_read.specs.Records.{HEAD_BYTES, sizeAt, losslessAt, nextAt}
 use Rattle.vbk.specs.Replay.{RECORD_LIMIT}
 use Rattle.vbk_write.specs.Lent.{Lent, Alike, tokensBefore, fileOf}
-use Rattle.promises.specs.Conditions.{NoDepth, LosslessAt, NoTxType, NoQuantizer, SomeBeyond, SumBeyond, SomeAbove, OtherCount}
+use Rattle.promises.specs.Conditions.{NoDepth, LosslessAt, NoTxType, NoQuantizer, SomeBeyond, SumBeyond, SomeAbove, OtherCount, LineLeaves}
 
 -- the 2D driver and the reference driver; the size number is n − 2
 pub data Driver (u : D.Input) : ℕ → Type 0 where
@@ -47,6 +49,14 @@ pub data Replace (u : Z.Input) : ℕ → Type 0 where
 -- the number of each step of a replacement, 0 for none
 abbrev pub replaceNumbers : List ℕ
 replaceNumbers = 0 ∷ 1 ∷ 2 ∷ 5 ∷ 6 ∷ 16 ∷ 8 ∷ 9 ∷ []
+
+-- the 32-bit engine: all that the driver refuses, then a row of the block, or a column of what the rows leave, that does not stay within 16 bits
+pub data Engine32 (u : D.Input) : ℕ → Type 0 where
+  driver : {k : ℕ} → Driver u k → Engine32 u k
+  row-leaves : (i : ℕ) → i < n0 (u .n) → LineLeaves (rowPass (u .tx-type) (u .lossless)) (u .n) (row (n0 (u .n)) i (u .block)) → Engine32 u 18
+  column-leaves : (j : ℕ) → j < n0 (u .n)
+      → LineLeaves (columnPass (u .tx-type) (u .lossless)) (u .n) (column (n0 (u .n)) j (rows (apply (rowPass (u .tx-type) (u .lossless)) (u .n)) (n0 (u .n)) (u .block)))
+      → Engine32 u 18
 
 -- reconstruction
 pub data Reconstruct (u : R.Input) : ℕ → Type 0 where

@@ -40,6 +40,10 @@ pub fn verdict(kind: usize, line: &[u8], at: usize, numbers: &mut [i64]) -> Verd
         ),
         35 => reached(line, replay_files::vbk_write(line, at, numbers)),
         36 => coder::quantize(line, at),
+        37 => reached(
+            line,
+            replay_engine32::inverse_transform_2d_32(line, at, numbers),
+        ),
         _ => Verdict::Skipped,
     }
 }

@@ -18,6 +18,8 @@ mod cases;
 mod files;
 #[path = "../../../../oracle/harness/line.rs"]
 mod line;
+#[path = "../../../../oracle/harness/narrow.rs"]
+mod narrow;
 #[path = "../../../../oracle/harness/rng.rs"]
 mod rng;
 #[path = "../../../../oracle/harness/rules.rs"]

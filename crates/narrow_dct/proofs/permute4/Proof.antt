@@ -1,0 +1,21 @@
+-- `narrow_dct::permute4` meets its contract: the table is the rule, by computation.
+use mathlib.Core.List.{List, [], _∷_}
+use Prim.Native.Nat.{ℕ}
+use lib.Dec.{lit≤}
+use borrow.Author.Needs.{needs}
+use Rattle.whole.specs.Lists.{fill, move}
+use Rattle.primitives.specs.Brev.{Brev}
+use Rattle.steps.specs.Step.{step}
+use Rattle.flat.proofs.Table.{places}
+use Rattle.narrow_dct.proofs.permute4.Statement.{statement}
+use Rattle.narrow_dct.proofs.permute4.Tie as tie
+
+abbrev table : List ℕ
+table = 0 ∷ 2 ∷ 1 ∷ 3 ∷ []
+
+returns : tie.Need-returns
+unfolding step move fill Brev
+returns c = c .reorder16 .ensures
+
+pub permute4-spec : {M : Type 1} → statement M
+permute4-spec = tie.close (tie.spec (λ c. search needs) (λ c κs. (lit≤ tt, lit≤ tt, places table 0 4 tt)) returns)

@@ -1,0 +1,5 @@
+mod Absolute
+mod Places
+mod Strips
+mod Spin
+mod About
