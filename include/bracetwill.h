@@ -84,7 +84,7 @@ static inline const char *bracetwill_answer_meaning(uint32_t answer) {
   case BRACETWILL_ANSWER_LENGTH: return "a list has the wrong length";
   case BRACETWILL_ANSWER_PLANE: return "plane width, height or stride above 65,535, stride below the width, or samples not exactly stride times height";
   case BRACETWILL_ANSWER_TOKEN: return "a token's magnitude above the depth's codeable limit (16,450, 65,602 and 262,210)";
-  case BRACETWILL_ANSWER_COEFFICIENT: return "a coefficient beyond its limit (2^27; for the forward WHT 2^23)";
+  case BRACETWILL_ANSWER_COEFFICIENT: return "a coefficient beyond its limit (2^31; for the forward WHT 2^23)";
   case BRACETWILL_ANSWER_MARK: return "VBK: the mark is not there";
   case BRACETWILL_ANSWER_VERSION: return "VBK: version is not 1";
   case BRACETWILL_ANSWER_CUT_SHORT: return "VBK: header, samples or a record cut short";
@@ -100,7 +100,7 @@ static inline const char *bracetwill_answer_meaning(uint32_t answer) {
 /* end */
 
 /* Limits, magnitudes included. */
-#define BRACETWILL_COEF_LIMIT INT64_C(134217728) /* dequantized values, the 2D driver's input, the quantizer's input */
+#define BRACETWILL_COEF_LIMIT INT64_C(2147483648) /* dequantized values, the 2D driver's input, the quantizer's input */
 #define BRACETWILL_WHT_LIMIT INT64_C(8388608)    /* the forward WHT's input */
 #define BRACETWILL_QUANT_LIMIT 32767             /* a quantizer is 1 to this */
 #define BRACETWILL_SIDE_LIMIT 65535              /* a plane's width, height and stride */

@@ -275,9 +275,9 @@ static void replacements(void) {
 
 /* Each number alone, and each before the next in the order 1, 2, 5, 6, 16, 8, 9. */
 static void replace_refuses(void) {
-  struct replacement c = {16, 0, 15, 16450, 1, 8160, 8};
+  struct replacement c = {16, 0, 15, 65539, 1, 32767, 12};
   replace_refused(c, BRACETWILL_ANSWER_COEFFICIENT, "replace: AC beyond");
-  c.token = -16451;
+  c.token = -262211;
   replace_refused(c, BRACETWILL_ANSWER_TOKEN, "replace: token before coefficient");
   c.token = INT64_MIN;
   replace_refused(c, BRACETWILL_ANSWER_TOKEN, "replace: the least number");
@@ -295,12 +295,12 @@ static void replace_refuses(void) {
   replace_refused(c, BRACETWILL_ANSWER_SIZE, "replace: size before quantizer");
   c.bit_depth = 9;
   replace_refused(c, BRACETWILL_ANSWER_DEPTH, "replace: depth before size");
-  const struct replacement good = {16, 0, 0, 16450, 8159, 1, 8};
+  const struct replacement good = {16, 0, 0, 131072, 16384, 1, 12};
   c = good;
-  c.dc_quant = 8160;
+  c.token = 131073;
   replace_refused(c, BRACETWILL_ANSWER_COEFFICIENT, "replace: DC beyond, alone");
   c = good;
-  c.token = 16451;
+  c.token = 262211;
   replace_refused(c, BRACETWILL_ANSWER_TOKEN, "replace: token alone");
   c = good;
   c.place = 16;
@@ -321,7 +321,7 @@ static void replace_refuses(void) {
   filled(1, INT64_MAX);
   c = good;
   c.ac_quant = 32767;
-  replaced(c, 0, INT64_C(16450) * 8159, 1, "replace: the limit");
+  replaced(c, 0, BRACETWILL_COEF_LIMIT, 1, "replace: the limit");
 }
 
 /* What reconstruction is handed. */
@@ -360,8 +360,11 @@ static void reconstruct_refused(struct call c, size_t place, int64_t token, uint
 static void reconstruct_refuses(void) {
   const struct call good = {48, 8, 6, 8, 1, 1, 0, 16, 4, 4, 0, false, 8};
   struct call c = good;
-  c.ac_quant = 8160;
-  reconstruct_refused(c, 15, 16450, BRACETWILL_ANSWER_COEFFICIENT, "reconstruction: coefficient");
+  c.ac_quant = 32767;
+  c.bit_depth = 12;
+  reconstruct_refused(c, 15, 65539, BRACETWILL_ANSWER_COEFFICIENT, "reconstruction: coefficient");
+  reconstruct_refused(c, 15, 262211, BRACETWILL_ANSWER_TOKEN, "reconstruction: token at 12");
+  c.bit_depth = 8;
   reconstruct_refused(c, 15, 16451, BRACETWILL_ANSWER_TOKEN, "reconstruction: token");
   reconstruct_refused(c, 15, INT64_MIN, BRACETWILL_ANSWER_TOKEN, "reconstruction: the least token");
   c.samples_len = 47;
@@ -423,13 +426,32 @@ static void reconstruct_takes(void) {
   list[15] = 16450;
   equal(reconstruct(c), BRACETWILL_ANSWER_DONE, "reconstruction: 134215550");
   c.ac_quant = 8160;
-  equal(reconstruct(c), BRACETWILL_ANSWER_COEFFICIENT, "reconstruction: 8160");
+  equal(reconstruct(c), BRACETWILL_ANSWER_DONE, "reconstruction: 8160");
+  c.bit_depth = 12;
+  c.ac_quant = 32767;
+  list[15] = 65536;
+  equal(reconstruct(c), BRACETWILL_ANSWER_DONE, "reconstruction: 65536 at 32767");
+  list[15] = 65539;
+  equal(reconstruct(c), BRACETWILL_ANSWER_COEFFICIENT, "reconstruction: 65539 at 32767");
+  c.ac_quant = 16384;
+  list[15] = -131072;
+  equal(reconstruct(c), BRACETWILL_ANSWER_DONE, "reconstruction: the limit");
+  list[15] = -131073;
+  equal(reconstruct(c), BRACETWILL_ANSWER_COEFFICIENT, "reconstruction: past the limit");
   c.tx_sz = 3;
   c.tokens_len = 1024;
+  c.bit_depth = 8;
+  list[15] = 16450;
   c.ac_quant = 16318;
   equal(reconstruct(c), BRACETWILL_ANSWER_DONE, "reconstruction: 16318 at 32 by 32");
   c.ac_quant = 16319;
-  equal(reconstruct(c), BRACETWILL_ANSWER_COEFFICIENT, "reconstruction: 16319 at 32 by 32");
+  equal(reconstruct(c), BRACETWILL_ANSWER_DONE, "reconstruction: 16319 at 32 by 32");
+  c.bit_depth = 12;
+  c.ac_quant = 16384;
+  list[15] = 262144;
+  equal(reconstruct(c), BRACETWILL_ANSWER_DONE, "reconstruction: the limit at 32 by 32");
+  list[15] = 262145;
+  equal(reconstruct(c), BRACETWILL_ANSWER_COEFFICIENT, "reconstruction: past the limit at 32 by 32");
   const struct call widest = {65535, 65535, 1, 65535, 65533, 0, 0, 16, 4, 4, 0, true, 8};
   plane_of(100);
   zeros();
@@ -570,8 +592,9 @@ static void report_refuses(void) {
   c = good;
   list[15] = 16451;
   report_refused(c, BRACETWILL_ANSWER_TOKEN, "report: a token comes first");
-  list[15] = 16450;
-  c.ac_quant = 8160;
+  list[15] = 65539;
+  c.bit_depth = 12;
+  c.ac_quant = 32767;
   report_refused(c, BRACETWILL_ANSWER_COEFFICIENT, "report: a coefficient comes first");
   c.bit_depth = 9;
   report_refused(c, BRACETWILL_ANSWER_DEPTH, "report: the depth comes first");
@@ -830,7 +853,7 @@ static void listing_runs(void) {
 
 /* Every answer that a record can have; reading goes on after all but the last. */
 static void records_answered(void) {
-  header(8, 1, 1);
+  header(12, 1, 1);
   const uint8_t want[] = {0, 14, 3, 4, 4, 5, 5, 8, 9, 0, 12};
   record(0, 9, 1, 4, 4, 4);
   record(0, 0, 2, 4, 4, 0);
@@ -839,8 +862,8 @@ static void records_answered(void) {
   record(3, 1, 0, 4, 4, 0);
   record(0, 0, 0, 0, 4, 0);
   record(0, 0, 0, 4, 32768, 0);
-  record(0, 0, 0, 4, 4, -16451);
-  record(0, 0, 0, 8160, 1, 16450);
+  record(0, 0, 0, 4, 4, -262211);
+  record(0, 0, 0, 32767, 1, 65539);
   record(3, 0, 0, 4, 4, 0);
   record(0, 0, 1, 4, 4, 0);
   file_len--;

@@ -30,7 +30,7 @@ pub fn side(n: u32) -> usize {
 
 /// A bound for a case's numbers: most cases are small, some at the limit.
 fn bound(r: &mut Rng, limit: i64) -> i64 {
-    let b = match r.below(8) {
+    let b = match r.below(9) {
         0 => 1,
         1 => 3,
         2 => 10,
@@ -38,6 +38,7 @@ fn bound(r: &mut Rng, limit: i64) -> i64 {
         4 => 1 << 12,
         5 => 1 << 17,
         6 => 1 << 22,
+        7 => 1 << 27,
         _ => limit,
     };
     b.min(limit)
@@ -368,7 +369,10 @@ fn engine32(r: &mut Rng) -> Call {
     let (n, tx_type, lossless) = kind_of_block(r);
     if r.once_in(6) {
         let mut c = driver(r, 37);
-        c.lists[0].iter_mut().for_each(|v| *v %= 40_000);
+        // magnitudes up to the driver's limit in some, around 16 bits in the others
+        if !r.once_in(3) {
+            c.lists[0].iter_mut().for_each(|v| *v %= 40_000);
+        }
         return c;
     }
     let (inside, outside, _) = edge(r, n, tx_type, lossless);
@@ -911,6 +915,11 @@ fn systematic_writing(out: &mut dyn FnMut(Call)) {
     }
 }
 
+/// A depth at which a codeable token of this size can have a coefficient beyond the limit: never 8, and 10 below 32 by 32 alone.
+fn beyond_depth(r: &mut Rng, size: u32) -> u32 {
+    if size < 3 && r.once_in(3) { 10 } else { 12 }
+}
+
 fn refused_recon(r: &mut Rng, wanted: &[u8]) -> Call {
     let has = |a: u8| wanted.contains(&a);
     let mut c = good_recon(r);
@@ -928,6 +937,9 @@ fn refused_recon(r: &mut Rng, wanted: &[u8]) -> Call {
         } else {
             c.tx_type = r.pick(&BAD_TYPES);
         }
+    }
+    if has(9) {
+        c.depth = beyond_depth(r, c.size);
     }
     if has(1) {
         c.depth = r.pick(&BAD_DEPTHS);
@@ -1091,6 +1103,9 @@ fn refused_replaced(r: &mut Rng, wanted: &[u8]) -> Call {
     let mut c = good_replaced(r);
     c.token = r.range(-20, 20);
     (c.dc, c.ac) = (c.dc.min(1_000), c.ac.min(1_000));
+    if has(9) {
+        c.depth = beyond_depth(r, c.size);
+    }
     if has(1) {
         c.depth = r.pick(&BAD_DEPTHS);
     }
@@ -1446,7 +1461,7 @@ fn systematic_recon(r: &mut Rng, out: &mut dyn FnMut(Call)) {
             }
             // the codeable limit, the product's limit and one past each, at place 0 and elsewhere
             for k in [0, 1, count - 1] {
-                for q in [1, 4, 7, 8_159, 8_160, 16_318, 16_319, 32_767] {
+                for q in [1, 4, 7, 8_189, 8_190, 16_379, 16_380, 16_384, 32_735, 32_736, 32_767] {
                     let most = token_bound(size, depth, q);
                     for t in [most, -most, most + 1, -most - 1] {
                         let mut tokens = vec![0; count];
@@ -1650,19 +1665,21 @@ fn systematic_replaced(r: &mut Rng, out: &mut dyn FnMut(Call)) {
         }
         // 8 and 9 are of the new token alone, under its place's quantizer: a block beyond every limit is none of it
         for (place, dc, ac, token) in [
-            (0, 32_767, 1, 16_450),
-            (1, 32_767, 1, 16_450),
-            (0, 1, 32_767, 16_450),
-            (1, 1, 32_767, 16_450),
-            (0, 8_159, 1, 16_450),
-            (0, 8_160, 1, 16_450),
-            (1, 1, 16_318, -16_450),
-            (1, 1, 16_319, -16_450),
-            (1, 1, 1, 16_451),
+            (0, 32_767, 1, 262_210),
+            (1, 32_767, 1, 262_210),
+            (0, 1, 32_767, 262_210),
+            (1, 1, 32_767, 262_210),
+            (0, 32_767, 1, 65_538),
+            (0, 32_767, 1, 65_539),
+            (1, 1, 32_767, -131_076),
+            (1, 1, 32_767, -131_077),
+            (0, 16_384, 1, 131_072),
+            (1, 1, 16_384, -262_144),
+            (1, 1, 1, 262_211),
             (1, 1, 1, i64::MIN),
         ] {
             let block = vec![i64::MAX; count as usize];
-            out(Replaced { size, place, token, dc, ac, depth: 8, block, summary: 3 }.call());
+            out(Replaced { size, place, token, dc, ac, depth: 12, block, summary: 3 }.call());
         }
         for place in [count, count + 1, u64::MAX] {
             out(Replaced { size, place, token: 1, dc: 4, ac: 4, depth: 8, block: vec![0; count as usize], summary: 1 }.call());
@@ -1764,6 +1781,29 @@ pub fn worked(out: &mut dyn FnMut(Call)) {
     for (size, q) in [(0, 8_159), (0, 8_160), (3, 16_318), (3, 16_319)] {
         out(one(size, 1, 16_450, 1, q).call());
         out(one(size, 1, 16_451, 1, q).call());
+    }
+    for (size, token, q) in [
+        (0, 65_536, 32_767),
+        (0, 65_538, 32_767),
+        (0, 65_539, 32_767),
+        (0, 131_072, 16_384),
+        (3, 131_076, 32_767),
+        (3, 131_077, 32_767),
+        (3, 262_144, 16_384),
+    ] {
+        out(Recon { depth: 12, ..one(size, 1, token, 1, q) }.call());
+        out(Recon { depth: 12, ..one(size, 0, -token, q, 1) }.call());
+    }
+    for kind in [20, 21] {
+        for v in [COEF, -COEF, COEF + 1, -COEF - 1] {
+            let mut block = vec![0; 16];
+            block[0] = v;
+            out(driver_call(kind, 2, 0, false, block));
+        }
+    }
+    for v in [COEF, -COEF, COEF + 1, -COEF - 1] {
+        out(call(24, vec![32_767, 32_767, 0, 12], vec![vec![v]]));
+        out(call(25, vec![32_767, 32_767], vec![vec![v]]));
     }
     for x in [4, 6] {
         let mut c = one(0, 0, 40, 16, 16);

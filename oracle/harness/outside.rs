@@ -167,15 +167,15 @@ fn main() {
     recon("plane 65536 by 1", Recon { width: 65_536, height: 1, ..good() });
 
     recon("token 16451 at depth 8", Recon { tokens: block(16, &[(0, 16_451)]), ..good() });
-    recon("token 16450 at AC 8160", Recon { ac: 8_160, tokens: block(16, &[(1, 16_450)]), ..good() });
+    recon("depth 12, token 65539 at AC 32767", Recon { depth: 12, ac: 32_767, tokens: block(16, &[(1, 65_539)]), ..good() });
     recon("token 2^62", Recon { tokens: block(16, &[(0, 1 << 62)]), ..good() });
-    for e in [27u32, 49, 50, 62] {
+    for e in [31u32, 49, 50, 62] {
         let v = (1i64 << e) + 1;
         both_drivers(&format!("n 2, place 0 holds 2^{e} + 1"), block(16, &[(0, v)]), 2, 0, false);
     }
     forward("place 0 holds 2^23 + 1", block(16, &[(0, (1 << 23) + 1)]));
     forward("every place holds 2^62", vec![1 << 62; 16]);
-    for v in [(1i64 << 27) + 1, i64::MAX, i64::MIN] {
+    for v in [(1i64 << 31) + 1, i64::MAX, i64::MIN] {
         quantize(&format!("coefficient {v} at 32767"), vec![v], 32_767, 1, 0, 12);
     }
 

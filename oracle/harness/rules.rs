@@ -1,7 +1,7 @@
 //! The refusals of docs/REFERENCE.md, written from its table and orders and from nothing else.
 //! Each function gives the lowest number that applies, or 0.
 
-pub const COEF_LIMIT: u64 = 134_217_728;
+pub const COEF_LIMIT: u64 = 2_147_483_648;
 pub const FORWARD_LIMIT: u64 = 8_388_608;
 pub const QUANT_MAX: i32 = 32_767;
 pub const SIDE_MAX: u64 = 65_535;

@@ -21,7 +21,7 @@ pub enum Refusal {
     Plane = 7,
     /// Answer 8: a token's magnitude above the depth's codeable limit (16,450, 65,602 and 262,210).
     Token = 8,
-    /// Answer 9: a coefficient beyond its limit (2^27; for the forward WHT 2^23).
+    /// Answer 9: a coefficient beyond its limit (2^31; for the forward WHT 2^23).
     Coefficient = 9,
     /// Answer 10: VBK: the mark is not there.
     Mark = 10,
@@ -53,7 +53,7 @@ pub(crate) const REFUSALS: [(Refusal, &str); 18] = [
     (Refusal::Length, "a list has the wrong length"),
     (Refusal::Plane, "plane width, height or stride above 65,535, stride below the width, or samples not exactly stride times height"),
     (Refusal::Token, "a token's magnitude above the depth's codeable limit (16,450, 65,602 and 262,210)"),
-    (Refusal::Coefficient, "a coefficient beyond its limit (2^27; for the forward WHT 2^23)"),
+    (Refusal::Coefficient, "a coefficient beyond its limit (2^31; for the forward WHT 2^23)"),
     (Refusal::Mark, "VBK: the mark is not there"),
     (Refusal::Version, "VBK: version is not 1"),
     (Refusal::CutShort, "VBK: header, samples or a record cut short"),

@@ -5,7 +5,7 @@ use lib.Dec.{eqb}
 
 -- magnitude of dequantized values, of the 2D driver's input and of the quantizer's
 abbrev pub COEF_LIMIT : ℕ
-COEF_LIMIT = 134217728
+COEF_LIMIT = 2147483648
 
 -- magnitude of the forward WHT's input
 abbrev pub WHT_LIMIT : ℕ

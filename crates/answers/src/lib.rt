@@ -30,7 +30,7 @@ pub enum Answer {
 }
 
 // Magnitude of dequantized values, of the 2D driver's input and of the quantizer's.
-pub const COEF_LIMIT: u64 = 134217728;
+pub const COEF_LIMIT: u64 = 2147483648;
 
 // Magnitude of the forward WHT's input.
 pub const WHT_LIMIT: u64 = 8388608;

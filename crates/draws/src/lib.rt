@@ -74,7 +74,7 @@ pub fn feed_bytes(digest: u64, list: &[u8]) -> u64 {
 
 // A magnitude of a scale: 0 to 7 for small to beyond every limit.
 pub fn magnitude(r: u64, scale: u64) -> u64
-    ensures { λ m. ⌜ m < 268435456 ⌝ }
+    ensures { λ m. ⌜ m < 4294967296 ⌝ }
 {
     match scale {
         0 => r % 2,
@@ -83,14 +83,14 @@ pub fn magnitude(r: u64, scale: u64) -> u64
         3 => r % 4096,
         4 => r % 65536,
         5 => r % 2097152,
-        6 => r % 134217729,
-        _ => r % 268435456,
+        6 => r % 2147483649,
+        _ => r % 4294967296,
     }
 }
 
 // The number below 0 of a magnitude.
 fn below_zero(m: u64) -> i64
-    requires { ⌜ m < 268435456 ⌝ }
+    requires { ⌜ m < 4294967296 ⌝ }
 {
     -(m as i64)
 }
@@ -120,10 +120,10 @@ pub fn density(r: u64) -> u64 {
 // Numbers at the limits and one past them.
 pub fn edge(r: u64) -> i64 {
     match r % 16 {
-        0 => 134217728,
-        1 => -134217728,
-        2 => 134217729,
-        3 => -134217729,
+        0 => 2147483648,
+        1 => -2147483648,
+        2 => 2147483649,
+        3 => -2147483649,
         4 => 8388608,
         5 => -8388608,
         6 => 8388609,

@@ -20,8 +20,8 @@ fn zeros() -> [i64; 1024] {
     [0; 1024]
 }
 
-// The number of reconstruction's answer: depth 8, one token at place 1 of a 4 by 4 block.
-fn answer_4(token: i64, ac: i32) -> u32 {
+// The number of reconstruction's answer: one token at place 1 of a 4 by 4 block.
+fn answer_4(token: i64, ac: i32, depth: u32) -> u32 {
     let mut samples = [100u16; 16];
     let mut tokens = [0i64; 16];
     tokens[1] = token;
@@ -41,13 +41,13 @@ fn answer_4(token: i64, ac: i32) -> u32 {
         quant::AcQuant(ac),
         0,
         false,
-        8,
+        depth,
     );
     answers::code(a)
 }
 
 // The same of a 32 by 32 block, with no sample to write.
-fn answer_32(token: i64, ac: i32) -> u32 {
+fn answer_32(token: i64, ac: i32, depth: u32) -> u32 {
     let mut samples = [0u16; 0];
     let mut tokens = zeros();
     tokens[1] = token;
@@ -67,7 +67,7 @@ fn answer_32(token: i64, ac: i32) -> u32 {
         quant::AcQuant(ac),
         0,
         false,
-        8,
+        depth,
     );
     answers::code(a)
 }
@@ -172,26 +172,98 @@ fn show_codeable() {
     show(b"codeable at depth 9: ", quant::max_codeable_coef(9));
 }
 
+// The answer of the 2D driver to one coefficient at place 0 of a 4 by 4 block.
+fn answer_driver(coef: i64) -> u32 {
+    let mut block = [0i64; 16];
+    block[0] = coef;
+    answers::code(idct::inverse_transform_2d(&mut block, 2, 0, false))
+}
+
+// The answer of the quantizer to the same at depth 12, under quantizers of 32,767.
+fn answer_quantizer(coef: i64) -> u32 {
+    let mut coefs = [0i64; 16];
+    coefs[0] = coef;
+    answers::code(fwd_transform::quantize_block_tx(
+        &mut coefs,
+        quant::DcQuant(32767),
+        quant::AcQuant(32767),
+        0,
+        12,
+    ))
+}
+
+// The coefficients' limit, and one past it.
+fn show_limit() {
+    show_number(
+        b"2D driver, 2147483648: answer ",
+        answer_driver(2147483648) as u64,
+    );
+    show_number(
+        b"2D driver, -2147483648: answer ",
+        answer_driver(-2147483648) as u64,
+    );
+    show_number(
+        b"2D driver, 2147483649: answer ",
+        answer_driver(2147483649) as u64,
+    );
+    show_number(
+        b"2D driver, -2147483649: answer ",
+        answer_driver(-2147483649) as u64,
+    );
+    show_number(
+        b"quantizer, 2147483648: answer ",
+        answer_quantizer(2147483648) as u64,
+    );
+    show_number(
+        b"quantizer, -2147483648: answer ",
+        answer_quantizer(-2147483648) as u64,
+    );
+    show_number(
+        b"quantizer, 2147483649: answer ",
+        answer_quantizer(2147483649) as u64,
+    );
+    show_number(
+        b"quantizer, -2147483649: answer ",
+        answer_quantizer(-2147483649) as u64,
+    );
+}
+
 fn show_answers() {
     show_number(
         b"4 by 4, AC quantizer 8159, token 16450: answer ",
-        answer_4(16450, 8159) as u64,
+        answer_4(16450, 8159, 8) as u64,
     );
     show_number(
         b"4 by 4, AC quantizer 8160, token 16450: answer ",
-        answer_4(16450, 8160) as u64,
+        answer_4(16450, 8160, 8) as u64,
     );
     show_number(
         b"4 by 4, AC quantizer 8159, token 16451: answer ",
-        answer_4(16451, 8159) as u64,
+        answer_4(16451, 8159, 8) as u64,
     );
     show_number(
         b"32 by 32, AC quantizer 16318, token 16450: answer ",
-        answer_32(16450, 16318) as u64,
+        answer_32(16450, 16318, 8) as u64,
     );
     show_number(
         b"32 by 32, AC quantizer 16319, token 16450: answer ",
-        answer_32(16450, 16319) as u64,
+        answer_32(16450, 16319, 8) as u64,
+    );
+    show_number(
+        b"depth 12, 4 by 4, AC quantizer 32767, token 65536: answer ",
+        answer_4(65536, 32767, 12) as u64,
+    );
+    show_number(
+        b"depth 12, 4 by 4, AC quantizer 32767, token 65539: answer ",
+        answer_4(65539, 32767, 12) as u64,
+    );
+    show_number(
+        b"depth 12, 32 by 32, AC quantizer 16384, token 262144: answer ",
+        answer_32(262144, 16384, 12) as u64,
+    );
+    show_number(
+        b"depth 12, 32 by 32, AC quantizer 16384, token 262145: answer ",
+        answer_32(262145, 16384, 12) as u64,
     );
 }
 
@@ -200,6 +272,7 @@ fn main() {
     show_coefficients();
     show_codeable();
     show_answers();
+    show_limit();
     show_plane(4, 3);
     show_padded(4, 3);
     show_plane(6, 3);

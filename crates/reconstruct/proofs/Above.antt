@@ -6,11 +6,10 @@ use Prim.Native.Nat.{ℕ, zero, suc, _+_, _*_, _/_, _≤_, _<_}
 use native.Mathlib.Numerals.{add-one}
 use native.Mathlib.Nat as NatL
 use native.Mathlib.Omega.{arith}
-use borrow.Author.Tests.{lt-ltb, le-ltb, ne-eqb, ltb-false}
+use borrow.Author.Tests.{lt-ltb, le-ltb, ne-eqb}
 use lib.Dec.{ltb, eqb}
 use lib.IntN.{ℤ, pos, natAbs}
 use lib.ListN.{length, getD}
-use lib.Signed.{ltZ}
 use Rattle.whole.specs.Tests.{anyBelow}
 use Rattle.whole.proofs.Lists.{getD-tabulate}
 use Rattle.answers.specs.Limits.{COEF_LIMIT, codeable}
@@ -26,13 +25,6 @@ use Rattle.reconstruct.specs.Inner.{tokenAnswer, Bounds, SmallTokens, an
 use Rattle.reconstruct.specs.declared.DcBound.{DcBound}
 use Rattle.reconstruct.specs.declared.AcBound.{AcBound}
 use Rattle.reconstruct.proofs.Sizes.{place-fine}
-
-pub never : {A : Type 0} → false ≡ true → A
-never h = absurd (let z : _≡_ {A = ℕ} 0 1 = cc in omega arith)
-
--- a quantizer that the quick test passes
-pub near : (q : ℤ) → badQuantizer q ≡ false → ltZ (pos 16384) q ≡ false → natAbs q ≤ 16384
-near q h l = ltb-false 16384 (natAbs q) (rw (quantizer q h .is) at l)
 
 -- the count is not 0
 pub counted : (n : ℕ) → not (eqb n 0) ≡ ltb 0 n
@@ -96,23 +88,17 @@ module _ (size most : ℕ) (dc : DcBound) (ac : AcBound) (d : DcQuant) (a : AcQu
       ∙ any-or _ _ (length tokens)
 
 -- where no limit is near, neither 8 nor 9
-place-small : (d : DcQuant) (a : AcQuant) (tokens : List ℤ) → SmallTokens d a tokens → (k : ℕ) → natAbs (quantizerAt d a k) ≤ 16384
-unfolding quantizerAt
-place-small d a tokens s k = go (eqb k 0)
-  where
-    go : (b : Bool) → natAbs (cond b (d .0) (a .0)) ≤ 16384
-    go true = s .dc-small
-    go false = s .ac-small
-
-pub small-fine : (size depth : ℕ) (d : DcQuant) (a : AcQuant) (tokens : List ℤ) → badDepth depth ≡ false → badQuantizers d a ≡ false → SmallTokens d a tokens
+pub small-fine : (size depth : ℕ) (d : DcQuant) (a : AcQuant) (tokens : List ℤ) → badDepth depth ≡ false → badQuantizers d a ≡ false → SmallTokens tokens
     → 0 ≡ tokenAnswer size d a depth tokens
 unfolding tokenAnswer badCoefficient dequantAll
 small-fine size depth d a tokens hd hq s =
-    let eight = all-within (codeable depth) (length tokens) tokens (λ k l. NatL.le-trans (s .small k l) (by-depth (λ e. 8192 ≤ codeable e) (omega arith) (omega arith) (omega arith) depth hd)) in
+    let eight = all-within (codeable depth) (length tokens) tokens (λ k l. NatL.le-trans (s .small k l) (by-depth (λ e. 16384 ≤ codeable e) (omega arith) (omega arith) (omega arith) depth hd)) in
     let nine = all-within COEF_LIMIT (length tokens) (dequantAll size d a tokens)
     (λ k l. let t = getD tokens k (pos 0) in
-    rw (getD-tabulate (λ k. dequant size (quantizerAt d a k) (getD tokens k (pos 0))) (length tokens) k (pos 0) l, dequant-abs size (quantizerAt d a k) t (place-fine d a hq k))
-    (NatL.le-trans (NatL.div-le-self (natAbs t * natAbs (quantizerAt d a k)) (dqDenom size)) (NatL.le-trans (NatL.mul-le-mul (s .small k l) (place-small d a tokens s k)) (omega arith)))) in
+    let q = quantizerAt d a k in
+    let fine = place-fine d a hq k in
+    rw (getD-tabulate (λ k. dequant size (quantizerAt d a k) (getD tokens k (pos 0))) (length tokens) k (pos 0) l, dequant-abs size q t fine)
+    (NatL.le-trans (NatL.div-le-self (natAbs t * natAbs q) (dqDenom size)) (NatL.le-trans (NatL.mul-le-mul (s .small k l) (quantizer q fine .most)) (omega arith)))) in
     rw (eight, nine)
 
 -- the two answers from the one scan

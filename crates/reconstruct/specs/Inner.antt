@@ -57,8 +57,6 @@ pub record Bounds (size : ℕ) (q : ℤ) (most r : ℕ) : Type 0 where
 unfoldable pub anyAbove : DcBound → AcBound → ℕ → List ℤ → Bool
 anyAbove dc ac n tokens = anyBelow (λ k. ltb (cond (eqb k 0) (dc .0) (ac .0)) (natAbs (getD tokens k (pos 0)))) n
 
--- tokens and quantizers that no limit is near to
-pub record SmallTokens (dc : DcQuant) (ac : AcQuant) (tokens : List ℤ) : Type 0 where
-  pub dc-small : natAbs (dc .0) ≤ 16384
-  pub ac-small : natAbs (ac .0) ≤ 16384
-  pub small : (k : ℕ) → k < length tokens → natAbs (getD tokens k (pos 0)) ≤ 8192
+-- tokens that no limit is near to, whatever the quantizers
+pub record SmallTokens (tokens : List ℤ) : Type 0 where
+  pub small : (k : ℕ) → k < length tokens → natAbs (getD tokens k (pos 0)) ≤ 16384

@@ -173,52 +173,16 @@ fn some_above(tokens: &[i64], count: usize, dc: DcBound, ac: AcBound) -> bool
     above != 0
 }
 
-// No token is beyond 8,192; of sixteen by a literal count, for speed.
-fn all_near(tokens: &[i64]) -> bool
-    ensures { λ r. ⌜ (r ≡ true → (k : ℕ) → k < length (now (tokens .entry)) → natAbs (getD (now (tokens .entry)) k (pos 0)) ≤ 8192) ⌝ }
+// No token is beyond 16,384: it is codeable at every depth, and no quantizer takes it to the coefficients' limit. Quick, and enough for
+// almost every block; of sixteen by a literal count, for speed.
+fn all_small(tokens: &[i64]) -> bool
+    ensures { λ r. ⌜ (r ≡ true → SmallTokens (now (tokens .entry))) ⌝ }
 {
     let count = tokens.len();
     if count == 16 {
-        return blocks::or_plus_most(tokens, 0, 16, 8192) < 16384;
+        return blocks::or_plus_most(tokens, 0, 16, 16384) < 32768;
     }
-    blocks::or_plus_most(tokens, 0, count, 8192) < 16384
-}
-
-// A quantizer is at most 16,384.
-fn dc_near(dc_quant: DcQuant) -> bool
-    requires { ⌜ badQuantizer («dc_quant» .0) ≡ false ⌝ }
-    ensures { λ r. ⌜ (r ≡ true → natAbs («dc_quant» .0) ≤ 16384) ⌝ }
-{
-    let dc = dc_quant.0;
-    if 16384 < dc {
-        return false;
-    }
-    true
-}
-
-fn ac_near(ac_quant: AcQuant) -> bool
-    requires { ⌜ badQuantizer («ac_quant» .0) ≡ false ⌝ }
-    ensures { λ r. ⌜ (r ≡ true → natAbs («ac_quant» .0) ≤ 16384) ⌝ }
-{
-    let ac = ac_quant.0;
-    if 16384 < ac {
-        return false;
-    }
-    true
-}
-
-// Whether no limit is near: 8,192 × 16,384 is the coefficients' limit. Quick, and enough for almost every block.
-fn all_small(tokens: &[i64], dc_quant: DcQuant, ac_quant: AcQuant) -> bool
-    requires { ⌜ badQuantizers «dc_quant» «ac_quant» ≡ false ⌝ }
-    ensures { λ r. ⌜ (r ≡ true → SmallTokens «dc_quant» «ac_quant» (now (tokens .entry))) ⌝ }
-{
-    if !dc_near(dc_quant) {
-        return false;
-    }
-    if !ac_near(ac_quant) {
-        return false;
-    }
-    all_near(tokens)
+    blocks::or_plus_most(tokens, 0, count, 16384) < 32768
 }
 
 // The answer of the tokens: an 8 anywhere before any 9.
@@ -232,7 +196,7 @@ fn check_tokens(
     requires { ⌜ (badDepth depth ≡ false) × (badQuantizers «dc_quant» «ac_quant» ≡ false) ⌝ }
     ensures { λ r. ⌜ number r ≡ tokenAnswer size «dc_quant» «ac_quant» depth (now (tokens .entry)) ⌝ }
 {
-    if all_small(tokens, dc_quant, ac_quant) {
+    if all_small(tokens) {
         return Answer::Done;
     }
     let most = max_codeable_coef(depth) as u64;

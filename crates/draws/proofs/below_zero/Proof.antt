@@ -12,7 +12,7 @@ use Rattle.draws.proofs.below_zero.Statement.{statement}
 use Rattle.draws.proofs.below_zero.Tie as tie
 
 -- −m fits
-neg-fits : (m : ℕ) → m < 268435456 → SFits w64 (pos 0 -ℤ toZ w64 m)
+neg-fits : (m : ℕ) → m < 4294967296 → SFits w64 (pos 0 -ℤ toZ w64 m)
 neg-fits m h = rw (toZ-pos w64 m (omega arith), zero-minus (pos m)) (sfits-by w64 (neg (at (pos m))) (omega arith) (omega arith))
 
 sub-result : tie.Need-sub-result

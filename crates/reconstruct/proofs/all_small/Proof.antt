@@ -1,27 +1,25 @@
 -- `reconstruct::all_small` meets its contract.
 use mathlib.Core.Path.{_≡_}
+use Prim.Native.Nat.{_+_}
+use native.Mathlib.Omega.{arith}
 use borrow.Author.Needs.{needs}
-use borrow.Author.Tests.{not-false}
-use Rattle.reconstruct.proofs.Sizes.{dc-fine, ac-fine}
-use Rattle.reconstruct.proofs.Above.{never}
+use borrow.Author.Tests.{ltb-true}
 use Rattle.reconstruct.proofs.all_small.Statement.{statement}
 use Rattle.reconstruct.proofs.all_small.Tie as tie
 
-returns-3 : tie.Need-returns-3
-returns-3 c h =
+returns : tie.Need-returns
+returns c h =
     record {
-      dc-small = c .before .before .before .before .dc-near .ensures (not-false _ (c .before .before .before .if1 .left));
-      ac-small = c .before .before .ac-near .ensures (not-false _ (c .before .if2 .left));
-      small = c .all-near .ensures h;
+      small = λ k l. let e : 0 + k ≡ k = omega arith in
+          rw e at (c .or-plus-most .ensures (omega (arith, ltb-true (c .or-plus-most .result) 32768 h)) k (omega (arith, c .before .if1 .taken)));
+    }
+
+returns-2 : tie.Need-returns-2
+returns-2 c h =
+    record {
+      small = λ k l. let e : 0 + k ≡ k = omega arith in
+          rw e at (c .or-plus-most2 .ensures (omega (arith, ltb-true (c .or-plus-most2 .result) 32768 h)) k l);
     }
 
 pub all-small-spec : {M : Type 1} → statement M
-all-small-spec =
-    tie.close
-    (tie.spec
-    (λ c κs. dc-fine _ _ (c .pre))
-    (λ c h. never h)
-    (λ c κs. ac-fine _ _ (c .before .before .pre))
-    (λ c h. never h)
-    (λ c κs. search needs)
-    returns-3)
+all-small-spec = tie.close (tie.spec (λ c κs. search needs) returns (λ c κs. search needs) returns-2)
