@@ -2,6 +2,8 @@
 //! bench ROUNDS CASE: only the cases whose name, as printed, has CASE in it.
 //! Inputs are copied before the clock starts; a round is one pass over all blocks of a case.
 #![allow(dead_code)]
+#[path = "../oracle/rust/fwd_transform.rs"]
+mod fwd_transform;
 #[path = "../oracle/rust/idct.rs"]
 mod idct;
 #[path = "../oracle/rust/intra.rs"]
@@ -29,6 +31,9 @@ mod ours {
         let mut rows = 0;
         unsafe { c::bracetwill_inverse_transform_2d_rows(block.as_mut_ptr(), block.len(), n, tx_type, lossless, &mut rows) };
         rows
+    }
+    pub fn forward_dct_2d(block: &mut [i64], n: u32) -> u32 {
+        unsafe { c::bracetwill_forward_dct_2d(block.as_mut_ptr(), block.len(), n) }
     }
     #[allow(clippy::too_many_arguments)]
     pub fn reconstruct_block(
@@ -265,6 +270,31 @@ fn added(coefs: &[i32], samples: &mut [u8], n0: usize, like: &Block) {
 #[cfg(not(libvpx))]
 fn added(_: &[i32], _: &mut [u8], _: usize, _: &Block) {}
 
+/// Ours in whole numbers beside the Rust's in f64: the two may differ, by how much `oracle/harness/distance.rs` tells.
+fn forward(rounds: usize, only: &str) {
+    println!("forward DCT\n| block   | Rust f64 ns | ours ns | ours / Rust |");
+    for n in 2..=5u32 {
+        let n0 = 1usize << n;
+        let name = format!("{n0:>2} x {n0:<2}, forward");
+        if !name.contains(only) {
+            continue;
+        }
+        let count = (1 << 16) / (n0 * n0);
+        let mut rng = Rng(0x9e37_79b9_7f4a_7c15 ^ n as u64);
+        let input: Vec<i64> = (0..count * n0 * n0).map(|_| rng.within(255)).collect();
+        let work = std::cell::RefCell::new(input.clone());
+        let mut theirs = || work.borrow_mut().chunks_exact_mut(n0 * n0).for_each(|b| fwd_transform::forward_dct_2d(black_box(b), black_box(n)));
+        let mut own = || work.borrow_mut().chunks_exact_mut(n0 * n0).for_each(|b| assert!(ours::forward_dct_2d(black_box(b), black_box(n)) == 0));
+        theirs();
+        let want = work.borrow().clone();
+        work.borrow_mut().copy_from_slice(&input);
+        own();
+        assert!(want.iter().zip(work.borrow().iter()).all(|(a, b)| (a - b).abs() <= 4), "more than 4 apart: {name}");
+        let t = measure(rounds, count, || work.borrow_mut().copy_from_slice(&input), &mut [&mut theirs, &mut own]);
+        println!("| {n0:>2} x {n0:<2} | {:.1} | {:.1} | {:.2} |", t[0], t[1], t[1] / t[0]);
+    }
+}
+
 /// Width and height of the plane of whole blocks.
 const SIDE: usize = 256;
 
@@ -337,5 +367,6 @@ fn main() {
     let only = args.next().unwrap_or_default();
     driver(rounds, &only);
     engine(rounds, &only);
+    forward(rounds, &only);
     rebuild(rounds, &only);
 }

@@ -77,14 +77,14 @@ static inline const char *bracetwill_answer_meaning(uint32_t answer) {
   switch (answer) {
   case BRACETWILL_ANSWER_DONE: return "done";
   case BRACETWILL_ANSWER_DEPTH: return "bit depth is not 8, 10 or 12";
-  case BRACETWILL_ANSWER_SIZE: return "size number above 3 (for the 2D drivers: n outside 2 to 5)";
+  case BRACETWILL_ANSWER_SIZE: return "size number above 3 (for the 2D drivers and the forward DCT: n outside 2 to 5)";
   case BRACETWILL_ANSWER_LOSSLESS_SIZE: return "lossless with a size other than 4 by 4";
   case BRACETWILL_ANSWER_TX_TYPE: return "not lossless, and a tx_type above 3, or 32 by 32 with a tx_type other than 0";
   case BRACETWILL_ANSWER_QUANTIZER: return "a quantizer outside 1 to 32,767";
   case BRACETWILL_ANSWER_LENGTH: return "a list has the wrong length";
   case BRACETWILL_ANSWER_PLANE: return "plane width, height or stride above 65,535, stride below the width, or samples not exactly stride times height";
   case BRACETWILL_ANSWER_TOKEN: return "a token's magnitude above the depth's codeable limit (16,450, 65,602 and 262,210)";
-  case BRACETWILL_ANSWER_COEFFICIENT: return "a coefficient beyond its limit (2^31; for the forward WHT 2^23)";
+  case BRACETWILL_ANSWER_COEFFICIENT: return "a coefficient beyond its limit (2^31; for the forward WHT 2^23; for the forward DCT a residual, 4,095)";
   case BRACETWILL_ANSWER_MARK: return "VBK: the mark is not there";
   case BRACETWILL_ANSWER_VERSION: return "VBK: version is not 1";
   case BRACETWILL_ANSWER_CUT_SHORT: return "VBK: header, samples or a record cut short";
@@ -102,6 +102,7 @@ static inline const char *bracetwill_answer_meaning(uint32_t answer) {
 /* Limits, magnitudes included. */
 #define BRACETWILL_COEF_LIMIT INT64_C(2147483648) /* dequantized values, the 2D driver's input, the quantizer's input */
 #define BRACETWILL_WHT_LIMIT INT64_C(8388608)    /* the forward WHT's input */
+#define BRACETWILL_RESIDUAL_LIMIT INT64_C(4095)  /* the forward DCT's input */
 #define BRACETWILL_QUANT_LIMIT 32767             /* a quantizer is 1 to this */
 #define BRACETWILL_SIDE_LIMIT 65535              /* a plane's width, height and stride */
 #define BRACETWILL_LIST_LIMIT 1024               /* numbers that the quantizer takes */
@@ -199,6 +200,11 @@ uint32_t bracetwill_reconstruct_block_report(uint16_t *samples, size_t samples_l
 /* The forward WHT of 16 numbers, in place. Answers 0, 6 (not 16), 9 (beyond BRACETWILL_WHT_LIMIT). */
 BRACETWILL_NODISCARD
 uint32_t bracetwill_forward_wht_2d(int64_t *block, size_t block_len);
+
+/* The forward DCT of 2^n by 2^n residuals, in place and in whole numbers: the coefficients that bracetwill_inverse_transform_2d takes at type 0.
+ * Answers 0, 2, 6 (not 2^n times 2^n numbers), 9 (beyond BRACETWILL_RESIDUAL_LIMIT). */
+BRACETWILL_NODISCARD
+uint32_t bracetwill_forward_dct_2d(int64_t *block, size_t block_len, uint32_t n);
 
 /* Coefficients become tokens, in place: 0 to 1024 of them, dc_quant for the first and ac_quant for all others. An exact half goes toward
  * zero. Answers 0, 1, 2, 5, 6, 9. */

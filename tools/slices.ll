@@ -105,6 +105,15 @@ define i32 @bracetwill_forward_wht_2d(ptr %block, i64 %block_len) {
   ret i32 %answer
 }
 
+define i32 @bracetwill_forward_dct_2d(ptr %block, i64 %block_len, i32 %n) {
+  %block.list = alloca { ptr, i64 }
+  store ptr %block, ptr %block.list
+  %block.count = getelementptr { ptr, i64 }, ptr %block.list, i32 0, i32 1
+  store i64 %block_len, ptr %block.count
+  %answer = call i32 @"exports::bracetwill_forward_dct_2d"(ptr %block.list, i32 %n)
+  ret i32 %answer
+}
+
 define i32 @bracetwill_quantize_block_tx(ptr %coefs, i64 %coefs_len, i32 %dc_quant, i32 %ac_quant, i32 %tx_sz, i32 %bit_depth) {
   %coefs.list = alloca { ptr, i64 }
   store ptr %coefs, ptr %coefs.list

@@ -638,6 +638,44 @@ static void forward_wht(void) {
   equal(bracetwill_forward_wht_2d(list, 16), BRACETWILL_ANSWER_DONE, "forward WHT: the limit");
 }
 
+/* Flat blocks have one coefficient; every number of the answers, and each limit on both its sides. */
+static void forward_dct(void) {
+  const int64_t flat[][3] = {{2, 100, 3200}, {2, 4095, 131035}, {3, 100, 6400}, {4, -1, -128}, {5, 100, 12799}};
+  for (size_t f = 0; f < 5; f++) {
+    const uint32_t n = (uint32_t)flat[f][0];
+    const size_t count = (size_t)1 << (2 * n);
+    zeros();
+    for (size_t k = 0; k < count; k++) list[k] = flat[f][1];
+    if (count < MOST) list[count] = 77;
+    equal(bracetwill_forward_dct_2d(list, count, n), BRACETWILL_ANSWER_DONE, "forward DCT");
+    for (size_t k = 0; k < count; k++) equal(list[k], k == 0 ? flat[f][2] : 0, "forward DCT: a coefficient");
+    if (count < MOST) equal(list[count], 77, "forward DCT: past the block");
+  }
+  const uint32_t sizes[] = {0, 1, 6, 32, UINT32_MAX};
+  for (size_t k = 0; k < 5; k++) {
+    filled(15, BRACETWILL_RESIDUAL_LIMIT + 1);
+    equal(bracetwill_forward_dct_2d(list, 17, sizes[k]), BRACETWILL_ANSWER_SIZE, "forward DCT: size");
+    check(same(list, before, sizeof list), "forward DCT: size, unchanged", 0, 0);
+  }
+  for (uint32_t n = 2; n <= 5; n++) {
+    const size_t count = (size_t)1 << (2 * n);
+    const size_t lens[] = {0, count - 1, count == MOST ? count - 2 : count + 1};
+    for (size_t k = 0; k < 3; k++) {
+      filled(0, BRACETWILL_RESIDUAL_LIMIT + 1);
+      equal(bracetwill_forward_dct_2d(list, lens[k], n), BRACETWILL_ANSWER_LENGTH, "forward DCT: length");
+      check(same(list, before, sizeof list), "forward DCT: length, unchanged", 0, 0);
+    }
+    const int64_t beyond[] = {BRACETWILL_RESIDUAL_LIMIT + 1, -BRACETWILL_RESIDUAL_LIMIT - 1, INT64_MAX, INT64_MIN};
+    for (size_t k = 0; k < 4; k++) {
+      filled(count - 1, beyond[k]);
+      equal(bracetwill_forward_dct_2d(list, count, n), BRACETWILL_ANSWER_COEFFICIENT, "forward DCT: beyond");
+      check(same(list, before, sizeof list), "forward DCT: beyond, unchanged", 0, 0);
+    }
+    filled(count - 1, -BRACETWILL_RESIDUAL_LIMIT);
+    equal(bracetwill_forward_dct_2d(list, count, n), BRACETWILL_ANSWER_DONE, "forward DCT: the limit");
+  }
+}
+
 static void quantize_refused(size_t len, int32_t dc, int32_t ac, uint32_t size, uint32_t depth, int64_t value, uint32_t want, const char *what) {
   filled(len == 0 ? 0 : len - 1, value);
   equal(bracetwill_quantize_block_tx(list, len, dc, ac, size, depth), want, what);
@@ -1026,6 +1064,7 @@ int main(void) {
   report_counts();
   report_refuses();
   forward_wht();
+  forward_dct();
   quantizers();
   headers_refused();
   rooms_refused();

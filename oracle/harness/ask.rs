@@ -2,7 +2,7 @@
 
 use crate::idct_open::open;
 use crate::line::{Call, Outcome};
-use crate::{best, fwd_transform, idct, idct_open, intra, narrow, reconstruct, rules, vbk};
+use crate::{best, forward, fwd_transform, idct, idct_open, intra, narrow, reconstruct, rules, vbk};
 
 fn numbers(list: impl IntoIterator<Item = impl Into<i64>>) -> Vec<i64> {
     list.into_iter().map(Into::into).collect()
@@ -163,6 +163,11 @@ pub fn ask(c: &Call) -> Outcome {
                 fwd_transform::forward_wht_2d(&mut block);
             }
             answered(answer, block)
+        }
+        38 => {
+            let (n, block) = (a(0) as u32, &c.lists[0]);
+            let answer = rules::forward_dct(n, block);
+            answered(answer, if answer == 0 { forward::coefficients(block, n) } else { block.clone() })
         }
         24 => {
             let (dc, ac, size, depth) = (a(0) as i32, a(1) as i32, a(2) as u32, a(3) as u32);

@@ -17,6 +17,7 @@ mod cases;
 mod compare;
 mod digest;
 mod files;
+mod forward;
 mod line;
 #[cfg(linked)]
 mod linked;

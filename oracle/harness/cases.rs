@@ -13,6 +13,7 @@ const ROW: i64 = 1 << 31; // inputs of one row
 const COEF: i64 = rules::COEF_LIMIT as i64;
 const LINE_FILE: usize = 9_000; // bytes of a file that goes into a line
 const FORWARD: i64 = rules::FORWARD_LIMIT as i64;
+const RESIDUAL: i64 = rules::RESIDUAL_LIMIT as i64;
 
 pub const DEPTHS: [u32; 3] = [8, 10, 12];
 const BAD_DEPTHS: [u32; 12] = [0, 1, 7, 9, 11, 13, 14, 16, 32, 57, 64, u32::MAX];
@@ -1172,6 +1173,95 @@ fn refused_forward(r: &mut Rng, wanted: &[u8]) -> Call {
     call(23, vec![], vec![block])
 }
 
+fn dct_call(n: u32, block: Vec<i64>) -> Call {
+    call(38, vec![n.into()], vec![block])
+}
+
+/// Residuals: any, one value with a little around it, or the signs of a pair of rows of the basis, where sums are largest.
+fn forward_dct(r: &mut Rng) -> Call {
+    let n = r.range(2, 5) as u32;
+    let n0 = side(n);
+    let mut block = fill(r, n0, &|_| RESIDUAL);
+    match r.below(4) {
+        0 => {
+            let (v, m) = (number(r, RESIDUAL), r.pick(&[0, 1, 20]));
+            block.iter_mut().for_each(|x| *x = (v + number(r, m)).clamp(-RESIDUAL, RESIDUAL));
+        }
+        1 => {
+            let (u, v, m) = (r.below(n0 as u64) as usize, r.below(n0 as u64) as usize, bound(r, RESIDUAL));
+            block = along(n, u, v, m);
+        }
+        _ => {}
+    }
+    if r.once_in(16) {
+        let k = r.below(block.len() as u64) as usize;
+        block[k] = beyond(r, RESIDUAL);
+    }
+    dct_call(n, block)
+}
+
+/// m, with the sign that row u of a basis has down the columns and row v along the rows.
+fn along(n: u32, u: usize, v: usize, m: i64) -> Vec<i64> {
+    let n0 = side(n);
+    let turned = |k: usize, i: usize| (((2 * i + 1) * k) as f64 * std::f64::consts::PI / (2 * n0) as f64).cos() < 0.0;
+    (0..n0 * n0).map(|p| if turned(u, p / n0) != turned(v, p % n0) { -m } else { m }).collect()
+}
+
+fn refused_dct(r: &mut Rng, wanted: &[u8]) -> Call {
+    let n = r.range(2, 5) as u32;
+    let mut block = fill(r, side(n), &|_| RESIDUAL);
+    if wanted.contains(&9) {
+        let k = r.below(block.len() as u64) as usize;
+        block[k] = beyond(r, RESIDUAL);
+    }
+    if wanted.contains(&6) {
+        match r.below(3) {
+            0 => block.truncate(r.below(block.len() as u64) as usize),
+            1 => block.push(beyond(r, RESIDUAL)),
+            _ => block.resize(block.len() + r.below(9) as usize + 1, 3),
+        }
+    }
+    let n = if wanted.contains(&2) { r.pick(&[0, 1, 6, 7, 31, 32, 34, 64, u32::MAX]) } else { n };
+    dct_call(n, block)
+}
+
+/// Each place alone at the limit and past it, flat blocks, the largest sums of every coefficient, other lengths and sizes.
+fn systematic_dct(out: &mut dyn FnMut(Call)) {
+    for n in 2..=5 {
+        let (n0, count) = (side(n), side(n) * side(n));
+        let alone = |k: usize, v: i64| {
+            let mut block = vec![0; count];
+            block[k] = v;
+            dct_call(n, block)
+        };
+        for k in (0..count).step_by(if n == 5 { 37 } else { 1 }).chain([count - 1]) {
+            out(alone(k, 1));
+            out(alone(k, RESIDUAL));
+        }
+        for k in [0, 1, n0 - 1, n0, count - 1] {
+            for v in [-RESIDUAL, RESIDUAL + 1, -RESIDUAL - 1, i64::MAX, i64::MIN] {
+                out(alone(k, v));
+            }
+        }
+        for v in [0, 1, -1, 2, 100, 255, -255, 380, 381, 382, 1_023, RESIDUAL, -RESIDUAL] {
+            out(dct_call(n, vec![v; count]));
+        }
+        for k in 0..n0 {
+            out(dct_call(n, along(n, k, 0, RESIDUAL)));
+            out(dct_call(n, along(n, 0, k, RESIDUAL)));
+            out(dct_call(n, along(n, k, n0 - 1 - k, RESIDUAL)));
+        }
+        for len in [0, 1, count - 1, count + 1, 2 * count] {
+            out(dct_call(n, vec![2; len]));
+        }
+    }
+    for n in [0, 1, 6, 7, 31, 32, 33, 64, u32::MAX] {
+        for len in [0, 16, 1_024] {
+            out(dct_call(n, vec![2; len]));
+        }
+    }
+}
+
 fn coefs(r: &mut Rng, count: usize, dc: i32, ac: i32) -> Vec<i64> {
     let b = bound(r, COEF);
     let near = r.once_in(2);
@@ -1275,7 +1365,7 @@ pub fn example() -> Recon {
 // ---- the systematic part ----
 
 /// The numbers that a call can refuse with, in their order.
-pub const REFUSALS: [(u32, &[u8]); 12] = [
+pub const REFUSALS: [(u32, &[u8]); 13] = [
     (20, &[2, 3, 4, 6, 9]),
     (21, &[2, 3, 4, 6, 9]),
     (22, &[1, 2, 3, 4, 5, 6, 7, 8, 9]),
@@ -1288,6 +1378,7 @@ pub const REFUSALS: [(u32, &[u8]); 12] = [
     (34, &[2, 3, 4, 6, 9]),
     (35, &[1, 2, 6, 13, 14, 17]),
     (37, &[2, 3, 4, 6, 9, 18]),
+    (38, &[2, 6, 9]),
 ];
 
 /// A call to which each of these numbers applies (3 and 4 never do together).
@@ -1301,6 +1392,7 @@ pub fn refused(r: &mut Rng, kind: u32, wanted: &[u8]) -> Call {
         33 => refused_replaced(r, wanted),
         35 => refused_writing(r, wanted),
         37 => refused_engine32(r, wanted),
+        38 => refused_dct(r, wanted),
         _ => refused_quantize(r, kind, wanted),
     }
 }
@@ -1831,6 +1923,10 @@ pub fn worked(out: &mut dyn FnMut(Call)) {
     out(files::as_call(&files::worked()));
     worked_rows(out);
     out(driver_call(37, 5, 0, false, turned_over()));
+    for (n, v) in [(2, 100), (2, 4_095), (3, 100), (4, 100), (2, -1)] {
+        out(dct_call(n, vec![v; side(n) * side(n)]));
+    }
+    out(dct_call(2, (1..=16).collect()));
 }
 
 /// Rows 0 and 2 of four; the last row alone; place 0 alone and nothing under each transform that there is; a row that a token empties; the token 1 of
@@ -1868,6 +1964,7 @@ pub fn systematic(r: &mut Rng, out: &mut dyn FnMut(Call)) {
     systematic_rows(r, out);
     systematic_writing(out);
     systematic_engine32(r, out);
+    systematic_dct(out);
     for (kind, numbers) in REFUSALS {
         sets(r, numbers, 5, &mut |r, wanted| out(refused(r, kind, wanted)));
     }
@@ -1889,7 +1986,7 @@ fn file(r: &mut Rng) -> Call {
 
 /// One random call. Most are of the calls that do the work.
 pub fn random(r: &mut Rng) -> Call {
-    match r.below(113) {
+    match r.below(115) {
         0 => round2(r),
         1 => brev(r),
         2 => call(r.pick(&[3, 4]), vec![angle(r)], vec![]),
@@ -1915,6 +2012,7 @@ pub fn random(r: &mut Rng) -> Call {
         103..=104 => writing(r),
         105 => one_token(r),
         106..=107 => engine32(r),
+        108..=109 => forward_dct(r),
         _ => {
             let (kind, numbers) = r.pick(&REFUSALS);
             let wanted: Vec<u8> = (0..r.range(1, 3)).map(|_| r.pick(numbers)).collect();

@@ -1,7 +1,7 @@
 //! The digest of calls of every kind, from the Rust: the same draws as crates/draws and crates/digest make, written anew from their
 //! description (oracle/README.md), the refusals by rules.rs. One number, which every host must print.
 
-use crate::{ask, fwd_transform, idct, narrow, rules, vbk};
+use crate::{ask, forward, fwd_transform, idct, narrow, rules, vbk};
 
 const GOLDEN: u64 = 0x9e37_79b9_7f4a_7c15;
 
@@ -135,6 +135,7 @@ enum Driver {
     Fast,
     Reference,
     Engine32,
+    Forward,
 }
 
 fn driver(key: u64, d: &mut Digest, which: Driver) {
@@ -142,8 +143,12 @@ fn driver(key: u64, d: &mut Digest, which: Driver) {
     let mut block = filled(lent(draw(key, 2), 16, size), draw(key, 5), draw(key, 6) % 8);
     let n = if size < 4 { size + 2 } else { size - 4 };
     let (tx_type, lossless) = (tx_type(draw(key, 3), size), lossless(draw(key, 4), size));
-    let mut answer = rules::driver(n, tx_type, lossless, &block);
+    let mut answer = match which {
+        Driver::Forward => rules::forward_dct(n, &block),
+        _ => rules::driver(n, tx_type, lossless, &block),
+    };
     match (answer, which) {
+        (0, Driver::Forward) => block = forward::coefficients(&block, n),
         (0, Driver::Fast) => idct::inverse_transform_2d(&mut block, n, tx_type, lossless),
         (0, Driver::Reference) => idct::inverse_transform_2d_reference(&mut block, n, tx_type, lossless),
         (0, Driver::Engine32) if narrow::process(n, tx_type, lossless, &block).is_err() => answer = 18,
@@ -404,7 +409,7 @@ fn file(key: u64, d: &mut Digest) {
 type Kind = fn(u64, &mut Digest);
 
 /// The kinds of calls. A new one is added at the end.
-const KINDS: [(&str, Kind); 13] = [
+const KINDS: [(&str, Kind); 14] = [
     ("inverse_transform_2d", |key, d| driver(key, d, Driver::Fast)),
     ("inverse_transform_2d_reference", |key, d| driver(key, d, Driver::Reference)),
     ("reconstruct_block", |key, d| block(key, d, false)),
@@ -418,6 +423,7 @@ const KINDS: [(&str, Kind); 13] = [
     ("replace_token", replace_token),
     ("inverse_transform_2d_rows", driver_rows),
     ("inverse_transform_2d_32", |key, d| driver(key, d, Driver::Engine32)),
+    ("forward_dct_2d", |key, d| driver(key, d, Driver::Forward)),
 ];
 
 pub fn print(seed: u64, count: u64) {

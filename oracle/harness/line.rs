@@ -59,6 +59,7 @@ pub const SHAPES: &[Shape] = &[
         nums: &["answer", "length"], after: &[After::Lent(10)] },
     Shape { kind: 36, name: "quantize", args: &["coef", "q", "size", "limit"], lists: &[], nums: &["token"], after: NONE },
     Shape { kind: 37, name: "inverse_transform_2d_32", args: &["n", "type", "lossless"], lists: &["block"], nums: &["answer"], after: T },
+    Shape { kind: 38, name: "forward_dct_2d", args: &["n"], lists: &["block"], nums: &["answer"], after: T },
 ];
 
 pub fn shape(kind: u32) -> Option<&'static Shape> {

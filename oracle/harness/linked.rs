@@ -13,7 +13,7 @@ mod archive;
 use archive::*;
 
 /// The kinds that are exported.
-const KINDS: [u32; 14] = [20, 21, 22, 23, 24, 25, 26, 30, 31, 32, 33, 34, 35, 37];
+const KINDS: [u32; 15] = [20, 21, 22, 23, 24, 25, 26, 30, 31, 32, 33, 34, 35, 37, 38];
 
 const MARGIN: usize = 8;
 
@@ -109,6 +109,11 @@ fn ours(c: &Call) -> (Outcome, bool) {
         23 => {
             let mut l = first();
             let answer = unsafe { bracetwill_forward_wht_2d(l.at(), l.len()) };
+            answered(answer, l)
+        }
+        38 => {
+            let mut l = first();
+            let answer = unsafe { bracetwill_forward_dct_2d(l.at(), l.len(), a(0) as u32) };
             answered(answer, l)
         }
         24 => {

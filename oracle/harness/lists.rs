@@ -21,7 +21,8 @@ fn class(c: &Call, o: &Outcome) -> Vec<i128> {
         10..=12 => vec![c.args[0]],
         20 | 21 | 37 if answer == 0 => vec![0, c.args[0], if c.args[2] == 1 { 9 } else { c.args[1] }],
         37 if answer == 18 => vec![18, c.args[0], if c.args[2] == 1 { 9 } else { c.args[1] }],
-        20 | 21 | 37 => vec![answer, small(c.args[0])],
+        38 if answer == 0 => vec![0, c.args[0]],
+        20 | 21 | 37 | 38 => vec![answer, small(c.args[0])],
         22 if answer == 0 => {
             let (n0, w, h) = (4i128 << c.args[2], c.args[8], c.args[9]);
             let outside = c.args[0] >= w || c.args[1] >= h;
@@ -82,6 +83,12 @@ fn room(c: &Call, o: &Outcome) -> (usize, usize) {
             4 => (2_200, 3),
             _ => (9_000, 2),
         },
+        38 if answer == 0 => match c.args[0] {
+            2 => (300, 60),
+            3 => (700, 20),
+            4 => (2_600, 6),
+            _ => (9_000, 4),
+        },
         20 | 21 if answer == 0 => match c.args[0] {
             2 => (300, 20),
             3 => (600, 14),
@@ -112,7 +119,7 @@ fn room(c: &Call, o: &Outcome) -> (usize, usize) {
         32..=34 => (300, 3),
         35 if answer == 0 => (3_000, 8),
         35 => (1_500, 3),
-        20 | 21 | 37 => (300, 3),
+        20 | 21 | 37 | 38 => (300, 3),
         22 => (300, 2),
         23 if answer == 0 => (300, 150),
         24 if answer == 0 => (250, 12),

@@ -3,6 +3,7 @@
 
 pub const COEF_LIMIT: u64 = 2_147_483_648;
 pub const FORWARD_LIMIT: u64 = 8_388_608;
+pub const RESIDUAL_LIMIT: u64 = 4_095;
 pub const QUANT_MAX: i32 = 32_767;
 pub const SIDE_MAX: u64 = 65_535;
 pub const QUANTIZER_LENGTH: usize = 1_024;
@@ -223,6 +224,19 @@ pub fn forward_wht(block: &[i64]) -> u8 {
         return 6;
     }
     if beyond(block, FORWARD_LIMIT) {
+        return 9;
+    }
+    0
+}
+
+pub fn forward_dct(n: u32, block: &[i64]) -> u8 {
+    if !(2..=5).contains(&n) {
+        return 2;
+    }
+    if block.len() != area(n - 2) {
+        return 6;
+    }
+    if beyond(block, RESIDUAL_LIMIT) {
         return 9;
     }
     0

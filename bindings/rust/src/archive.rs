@@ -64,6 +64,7 @@ unsafe extern "C" {
         sums: *mut [u64; 44],
     ) -> u32;
     pub fn bracetwill_forward_wht_2d(block: *mut i64, block_len: usize) -> u32;
+    pub fn bracetwill_forward_dct_2d(block: *mut i64, block_len: usize, n: u32) -> u32;
     pub fn bracetwill_quantize_block_tx(
         coefs: *mut i64,
         coefs_len: usize,

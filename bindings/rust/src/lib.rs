@@ -832,6 +832,27 @@ pub mod fwd_transform {
         answer(unsafe { archive::bracetwill_forward_wht_2d(block.as_mut_ptr(), block.len()) })
     }
 
+    /// The forward DCT of 2^n by 2^n residuals within 4,095, in place and in whole numbers, alike on every host: the coefficients that
+    /// [`crate::idct::try_inverse_transform_2d`] takes at type 0. Refused with 2, 6 or 9. The Rust's own works in `f64`, and its coefficients may
+    /// differ by a few (docs/DIFFERENCES.md).
+    ///
+    /// ```
+    /// use bracetwill::{Refusal, fwd_transform::try_forward_dct_2d, idct::try_inverse_transform_2d};
+    ///
+    /// // a flat block has one coefficient
+    /// let mut block = [100; 16];
+    /// try_forward_dct_2d(&mut block, 2)?;
+    /// assert_eq!((block[0], &block[1..]), (3_200, &[0; 15][..]));
+    /// try_inverse_transform_2d(&mut block, 2, 0, false)?;
+    /// assert_eq!(block, [100; 16]);
+    /// assert_eq!(try_forward_dct_2d(&mut [4_096; 16], 2), Err(Refusal::Coefficient));
+    /// # Ok::<(), Refusal>(())
+    /// ```
+    pub fn try_forward_dct_2d(block: &mut [i64], n: u32) -> Result<(), Refusal> {
+        // SAFETY: as above.
+        answer(unsafe { archive::bracetwill_forward_dct_2d(block.as_mut_ptr(), block.len(), n) })
+    }
+
     /// Coefficients become tokens, in place; at most 1,024. `dc_quant` is for the first, `ac_quant` for all others; an exact half goes toward
     /// zero. Refused with 1, 2, 5, 6 or 9.
     ///
@@ -870,6 +891,18 @@ pub mod fwd_transform {
     #[track_caller]
     pub fn forward_wht_2d(block: &mut [i64]) {
         taken("forward_wht_2d", try_forward_wht_2d(block));
+    }
+
+    /// [`try_forward_dct_2d`]; a refusal panics.
+    ///
+    /// ```
+    /// let mut block = [-1; 64];
+    /// bracetwill::fwd_transform::forward_dct_2d(&mut block, 3);
+    /// assert_eq!((block[0], &block[1..]), (-64, &[0; 63][..]));
+    /// ```
+    #[track_caller]
+    pub fn forward_dct_2d(block: &mut [i64], n: u32) {
+        taken("forward_dct_2d", try_forward_dct_2d(block, n));
     }
 
     /// [`try_quantize_block_tx`]; a refusal panics.

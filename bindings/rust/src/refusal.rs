@@ -7,7 +7,7 @@
 pub enum Refusal {
     /// Answer 1: bit depth is not 8, 10 or 12.
     Depth = 1,
-    /// Answer 2: size number above 3 (for the 2D drivers: n outside 2 to 5).
+    /// Answer 2: size number above 3 (for the 2D drivers and the forward DCT: n outside 2 to 5).
     Size = 2,
     /// Answer 3: lossless with a size other than 4 by 4.
     LosslessSize = 3,
@@ -21,7 +21,7 @@ pub enum Refusal {
     Plane = 7,
     /// Answer 8: a token's magnitude above the depth's codeable limit (16,450, 65,602 and 262,210).
     Token = 8,
-    /// Answer 9: a coefficient beyond its limit (2^31; for the forward WHT 2^23).
+    /// Answer 9: a coefficient beyond its limit (2^31; for the forward WHT 2^23; for the forward DCT a residual, 4,095).
     Coefficient = 9,
     /// Answer 10: VBK: the mark is not there.
     Mark = 10,
@@ -46,14 +46,14 @@ pub enum Refusal {
 /// Every refusal with its meaning, in the order of the numbers.
 pub(crate) const REFUSALS: [(Refusal, &str); 18] = [
     (Refusal::Depth, "bit depth is not 8, 10 or 12"),
-    (Refusal::Size, "size number above 3 (for the 2D drivers: n outside 2 to 5)"),
+    (Refusal::Size, "size number above 3 (for the 2D drivers and the forward DCT: n outside 2 to 5)"),
     (Refusal::LosslessSize, "lossless with a size other than 4 by 4"),
     (Refusal::TxType, "not lossless, and a tx_type above 3, or 32 by 32 with a tx_type other than 0"),
     (Refusal::Quantizer, "a quantizer outside 1 to 32,767"),
     (Refusal::Length, "a list has the wrong length"),
     (Refusal::Plane, "plane width, height or stride above 65,535, stride below the width, or samples not exactly stride times height"),
     (Refusal::Token, "a token's magnitude above the depth's codeable limit (16,450, 65,602 and 262,210)"),
-    (Refusal::Coefficient, "a coefficient beyond its limit (2^31; for the forward WHT 2^23)"),
+    (Refusal::Coefficient, "a coefficient beyond its limit (2^31; for the forward WHT 2^23; for the forward DCT a residual, 4,095)"),
     (Refusal::Mark, "VBK: the mark is not there"),
     (Refusal::Version, "VBK: version is not 1"),
     (Refusal::CutShort, "VBK: header, samples or a record cut short"),

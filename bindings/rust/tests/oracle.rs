@@ -16,6 +16,8 @@ mod best;
 mod cases;
 #[path = "../../../oracle/harness/files.rs"]
 mod files;
+#[path = "../../../oracle/harness/forward.rs"]
+mod forward;
 #[path = "../../../oracle/harness/line.rs"]
 mod line;
 #[path = "../../../oracle/harness/narrow.rs"]
@@ -339,6 +341,16 @@ fn compare(c: &Call) -> Option<(&'static str, bool)> {
         }
         22 => recon(c),
         23 => in_place(&c.lists[0], rules::forward_wht(&c.lists[0]), fwd_transform::forward_wht_2d, fwd::forward_wht_2d, fwd::try_forward_wht_2d),
+        38 => {
+            let n = a(0) as u32;
+            in_place(
+                &c.lists[0],
+                rules::forward_dct(n, &c.lists[0]),
+                |l| l.copy_from_slice(&forward::coefficients(l, n)),
+                |l| fwd::forward_dct_2d(l, n),
+                |l| fwd::try_forward_dct_2d(l, n),
+            )
+        }
         24 => {
             let (dc, ac, size, depth) = (a(0) as i32, a(1) as i32, a(2) as u32, a(3) as u32);
             in_place(
@@ -399,7 +411,7 @@ fn main() {
         println!("{name:<32} {a:>7} alike {b:>4} not");
         (same, differ) = (same + a, differ + b);
     }
-    assert_eq!(tally.len(), 14, "every public call is compared");
+    assert_eq!(tally.len(), 15, "every public call is compared");
     println!("{same} passed, {differ} failed");
     std::process::exit(i32::from(differ != 0));
 }

@@ -1,4 +1,4 @@
-// Calls of the two drivers and of the 32-bit engine.
+// Calls of the two drivers, of the 32-bit engine and of the forward DCT.
 ghost use mathlib.Core.Path.{_≡_};
 ghost use lib.ListN.{length};
 
@@ -25,7 +25,7 @@ pub fn exponent(size: u32) -> u32 {
     size - 4
 }
 
-// One call on a block: 0 is the fast driver, 1 the reference, 2 the 32-bit engine.
+// One call on a block: 0 is the fast driver, 1 the reference, 2 the 32-bit engine, 3 the forward DCT, which has no type.
 fn drive(block: &mut [i64], n: u32, tx_type: u8, lossless: bool, which: u32) -> u32 {
     if which == 0 {
         return answers::code(idct::inverse_transform_2d(block, n, tx_type, lossless));
@@ -33,7 +33,10 @@ fn drive(block: &mut [i64], n: u32, tx_type: u8, lossless: bool, which: u32) -> 
     if which == 1 {
         return answers::code(idct::inverse_transform_2d_reference(block, n, tx_type, lossless));
     }
-    answers::code(idct32::inverse_transform_2d_32(block, n, tx_type, lossless))
+    if which == 2 {
+        return answers::code(idct32::inverse_transform_2d_32(block, n, tx_type, lossless));
+    }
+    answers::code(fwd_dct::forward_dct_2d(block, n))
 }
 
 // The digest after the call's answer and the block as it leaves it.
@@ -62,4 +65,8 @@ pub fn reference(key: u64, digest: u64) -> u64 {
 
 pub fn engine32(key: u64, digest: u64) -> u64 {
     call(key, digest, 2)
+}
+
+pub fn forward_dct(key: u64, digest: u64) -> u64 {
+    call(key, digest, 3)
 }

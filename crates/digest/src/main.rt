@@ -12,7 +12,7 @@ use libc::STDIN_FILENO;
 use libc::STDOUT_FILENO;
 
 // Kinds of calls. A new one is added at the end.
-const KINDS: u64 = 13;
+const KINDS: u64 = 14;
 
 // The digest after one call more.
 fn one(kind: u64, key: u64, digest: u64) -> u64 {
@@ -29,7 +29,8 @@ fn one(kind: u64, key: u64, digest: u64) -> u64 {
         9 => rows::row_summary(key, digest),
         10 => rows::replace_token(key, digest),
         11 => rows::inverse_transform_2d_rows(key, digest),
-        _ => drivers::engine32(key, digest),
+        12 => drivers::engine32(key, digest),
+        _ => drivers::forward_dct(key, digest),
     }
 }
 
@@ -59,7 +60,8 @@ fn name(kind: u64) -> bool {
         9 => io::write_all(STDOUT_FILENO, b"row_summary                    "),
         10 => io::write_all(STDOUT_FILENO, b"replace_token                  "),
         11 => io::write_all(STDOUT_FILENO, b"inverse_transform_2d_rows      "),
-        _ => io::write_all(STDOUT_FILENO, b"inverse_transform_2d_32        "),
+        12 => io::write_all(STDOUT_FILENO, b"inverse_transform_2d_32        "),
+        _ => io::write_all(STDOUT_FILENO, b"forward_dct_2d                 "),
     }
 }
 

@@ -16,6 +16,7 @@ ghost use Rattle.summary.specs.Replace.{answerOf as replaceAnswer};
 ghost use Rattle.idct32.specs.Engine.{answerOf32, blockAfter32};
 ghost use Rattle.reconstruct.specs.Reconstruct.{answerOf as reconstructAnswer, samplesAfter};
 ghost use Rattle.report.specs.Report.{answerOf as reportAnswer};
+ghost use Rattle.fwd_dct.specs.Forward.{answerOf as dctAnswer, blockAfter as dctAfter};
 ghost use Rattle.fwd_transform.specs.ForwardWht.{whtAnswer, whtAfter};
 ghost use Rattle.fwd_transform.specs.Quantize.{answerOf as quantizeAnswer, coefsAfter};
 ghost use Rattle.vbk.specs.Promises.{Printed};
@@ -256,6 +257,15 @@ pub extern "C" fn bracetwill_forward_wht_2d(block: &mut [i64]) -> u32
     ensures { λ r. ⌜ Told whtAnswer whtAfter (now (block .entry)) r (now (block .exit)) ⌝ }
 {
     let a = fwd_transform::forward_wht_2d(block);
+    answers::code(a)
+}
+
+// The forward DCT of a block, in whole numbers.
+#[no_mangle]
+pub extern "C" fn bracetwill_forward_dct_2d(block: &mut [i64], n: u32) -> u32
+    ensures { λ r. ⌜ Told dctAnswer dctAfter (record { block = now (block .entry); n = n }) r (now (block .exit)) ⌝ }
+{
+    let a = fwd_dct::forward_dct_2d(block, n);
     answers::code(a)
 }
 

@@ -18,6 +18,7 @@ use Rattle.idct.specs.Rows.{Rowed}
 use Rattle.idct32.specs.Engine.{answerOf32, Driven32}
 use Rattle.reconstruct.specs.Reconstruct as R
 use Rattle.report.specs.Report as P
+use Rattle.fwd_dct.specs.Forward as F
 use Rattle.fwd_transform.specs.Quantize as Q
 use Rattle.fwd_transform.specs.ForwardWht.{Forwarded}
 use Rattle.vbk_read.specs.Header.{Headed}
@@ -92,6 +93,10 @@ report-unique u a b s t c d m n p q =
 pub forward-unique : (block : List ℤ) (a b : Answer) (s t : List ℤ) → Forwarded block a s → Forwarded block b t → (a ≡ b) × (s ≡ t)
 forward-unique block a b s t p q = (same-answer _ a b (p .answered) (q .answered), same (p .written) (q .written))
 
+-- `forward_dct_2d`
+pub dct-unique : (u : F.Input) (a b : Answer) (s t : List ℤ) → F.Transformed u a s → F.Transformed u b t → (a ≡ b) × (s ≡ t)
+dct-unique u a b s t p q = (same-answer (F.answerOf u) a b (p .answered) (q .answered), same (p .written) (q .written))
+
 -- `quantize_block_tx` and `quantize_block`
 pub quantize-unique : (u : Q.Input) (a b : Answer) (s t : List ℤ) → Q.Quantized u a s → Q.Quantized u b t → (a ≡ b) × (s ≡ t)
 quantize-unique u a b s t p q = (same-answer (Q.answerOf u) a b (p .answered) (q .answered), same (p .written) (q .written))
@@ -157,7 +162,7 @@ write-unique l out r t o₁ o₂ p q =
     let n = same (p .length-is) (q .length-is) in
     (ap (λ x. record { answer = x; length = r .length }) a ∙ ap (λ x. record { answer = t .answer; length = x }) n, same (p .out-is) (q .out-is))
 
--- `bracetwill_inverse_transform_2d`, its reference, `bracetwill_inverse_transform_2d_rows`, `bracetwill_row_summary`, `bracetwill_replace_token`, `bracetwill_reconstruct_block`, `bracetwill_reconstruct_block_report`, `bracetwill_forward_wht_2d`, `bracetwill_quantize_block_tx`, `bracetwill_quantize_block` and `bracetwill_vbk_write`
+-- `bracetwill_inverse_transform_2d`, its reference, `bracetwill_inverse_transform_2d_rows`, `bracetwill_row_summary`, `bracetwill_replace_token`, `bracetwill_reconstruct_block`, `bracetwill_reconstruct_block_report`, `bracetwill_forward_wht_2d`, `bracetwill_forward_dct_2d`, `bracetwill_quantize_block_tx`, `bracetwill_quantize_block` and `bracetwill_vbk_write`
 pub told-unique : {Given Lent : Type 0} (answer : Given → ℕ) (after : Given → Lent) (u : Given) (r t : ℕ) (k l : Lent) → Told answer after u r k
     → Told answer after u t l → (r ≡ t) × (k ≡ l)
 told-unique answer after u r t k l p q = (same (p .answered) (q .answered), same (p .written) (q .written))

@@ -17,6 +17,8 @@ use Rattle.quant.specs.Places.{dequantAll}
 use Rattle.answers.specs.Sizes.{area}
 use Rattle.idct.specs.Driver as D
 use Rattle.reconstruct.specs.Reconstruct as R
+use Rattle.fwd_dct.specs.Forward as F
+use Rattle.fwd_dct.specs.Forward.{RESIDUAL_LIMIT}
 use Rattle.fwd_transform.specs.Quantize as Q
 use Rattle.fwd_transform.specs.ForwardWht.{whtAnswer, Forwarded}
 use Rattle.promises.specs.Exactly.{Exactly}
@@ -224,3 +226,22 @@ forward-exactly block =
 -- `forward_wht_2d`
 pub forward-when : (block : List ℤ) (a : Answer) (after : List ℤ) → Forwarded block a after → Exactly (W.Forward block) (number a)
 forward-when block a after f = subst (λ (n : ℕ). Exactly (W.Forward block) n) (sym (f .answered)) (forward-exactly block)
+
+-- ---- the forward DCT
+dct-has : (u : F.Input) (n : ℕ) → W.ForwardDct u n
+    → Applies n ((2, badSide (u .n)) ∷ (6, not (eqb (length (u .block)) (area (u .n)))) ∷ (9, anyBeyond RESIDUAL_LIMIT (length (u .block)) (u .block)) ∷ [])
+dct-has u n (W.side h) = here-if 2 _ _ (side-test (u .n) h)
+dct-has u n (W.count h) = there (here-if 6 _ _ (T.differs (length (u .block)) (area (u .n)) h))
+dct-has u n (W.residual h) = there (there (here-if 9 _ _ (T.beyond-test RESIDUAL_LIMIT (length (u .block)) (u .block) h)))
+
+dct-exactly : (u : F.Input) → Exactly (W.ForwardDct u) (F.answerOf u)
+unfolding F.answerOf
+dct-exactly u =
+    exactly (W.ForwardDct u) _ tt
+    (more (λ e. W.side (no-side (u .n) e))
+    (more (λ e. W.count (T.differ (length (u .block)) (area (u .n)) e)) (more (λ e. W.residual (T.some-beyond RESIDUAL_LIMIT (length (u .block)) (u .block) e)) none)))
+    (dct-has u)
+
+-- `forward_dct_2d`
+pub dct-when : (u : F.Input) (a : Answer) (after : List ℤ) → F.Transformed u a after → Exactly (W.ForwardDct u) (number a)
+dct-when u a after f = subst (λ (n : ℕ). Exactly (W.ForwardDct u) n) (sym (f .answered)) (dct-exactly u)

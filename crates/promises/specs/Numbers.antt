@@ -1,15 +1,17 @@
 -- The numbers of docs/REFERENCE.md that are proved, in one table: what a definition gives, beside what is said there.
 use mathlib.Core.Bool.{false}
 use mathlib.Core.List.{List, [], _∷_, _++_}
-use Prim.Native.Nat.{ℕ}
+use Prim.Native.Nat.{ℕ, _+_}
 use lib.IntN.{ℤ, pos, negsuc}
 use lib.ListN.{length, replicate, take}
+use Rattle.whole.specs.Lists.{tabulate}
 use Rattle.answers.specs.Limits.{codeable}
 use Rattle.primitives.specs.Brev.{Brev}
 use Rattle.primitives.specs.Cosine.{Cos64, Sin64}
 use Rattle.wht.specs.Wht.{wht}
 use Rattle.quant.specs.Token.{quantize}
 use Rattle.blocks.specs.Inverse.{inverse2d}
+use Rattle.fwd_dct.specs.Forward.{forwardDct}
 use Rattle.summary.specs.Summary.{setRows, summaryOf, firstOf, lastOf}
 use Rattle.summary.specs.Replace.{summaryAfter}
 use Rattle.exports.specs.Rows.{rowNumber}
@@ -67,6 +69,8 @@ numbers =
     ∷ says 0 (pos 0) (negsuc 0) (negsuc 0)
     ∷ halved (pos 1) (pos 0)
     ∷ halved (pos 2) (pos 2147483648)
+    ∷ record { given = forwardDct 2 (replicate 16 (pos 100)); said = pos 3200 ∷ replicate 15 (pos 0) }
+    ∷ record { given = forwardDct 2 (tabulate (λ k. pos (k + 1)) 16); said = pos 272 ∷ negsuc 35 ∷ pos 0 ∷ negsuc 2 ∷ negsuc 142 ∷ replicate 7 (pos 0) ++ (negsuc 9 ∷ replicate 3 (pos 0)) }
     ∷ []
 
 -- what the definitions give

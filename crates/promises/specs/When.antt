@@ -14,6 +14,8 @@ use Rattle.idct.specs.Driver as D
 use Rattle.reconstruct.specs.Reconstruct as R
 use Rattle.report.specs.Report as P
 use Rattle.report.specs.Report.{TOTAL_LIMIT, total}
+use Rattle.fwd_dct.specs.Forward as F
+use Rattle.fwd_dct.specs.Forward.{RESIDUAL_LIMIT}
 use Rattle.fwd_transform.specs.Quantize as Q
 use Rattle.vbk_read.specs.Bytes.{le1}
 use Rattle.vbk_read.specs.Header.{HEADER_BYTES, versionOf, depthOf, planeArea, firstRecord}
@@ -94,6 +96,12 @@ pub data Quantize (u : Q.Input) : ℕ → Type 0 where
 pub data Forward (block : List ℤ) : ℕ → Type 0 where
   count : (length block ≡ 16 → ⊥) → Forward block 6
   coefficient : SomeBeyond WHT_LIMIT (length block) block → Forward block 9
+
+-- the forward DCT
+pub data ForwardDct (u : F.Input) : ℕ → Type 0 where
+  side : (2 ≤ u .n → u .n ≤ 5 → ⊥) → ForwardDct u 2
+  count : (length (u .block) ≡ area (u .n) → ⊥) → ForwardDct u 6
+  residual : SomeBeyond RESIDUAL_LIMIT (length (u .block)) (u .block) → ForwardDct u 9
 
 -- the header of a VBK file, step by step
 pub data Header (s : List ℕ) : ℕ → Type 0 where

@@ -1,0 +1,5 @@
+pub mod Sums
+pub mod Lines
+pub mod Passes
+pub mod Answers
+pub mod Flat
