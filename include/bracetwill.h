@@ -69,7 +69,8 @@ enum bracetwill_answer {
   BRACETWILL_ANSWER_REPORT = 15,
   BRACETWILL_ANSWER_PLACE = 16,
   BRACETWILL_ANSWER_ROOM = 17,
-  BRACETWILL_ANSWER_NARROW = 18
+  BRACETWILL_ANSWER_NARROW = 18,
+  BRACETWILL_ANSWER_RULE = 19
 };
 
 /* An answer in words, the same that every other part of the product says; never NULL. */
@@ -94,6 +95,7 @@ static inline const char *bracetwill_answer_meaning(uint32_t answer) {
   case BRACETWILL_ANSWER_PLACE: return "the place is at or past the block's end";
   case BRACETWILL_ANSWER_ROOM: return "the buffer is too short for the file";
   case BRACETWILL_ANSWER_NARROW: return "a number of the recursive process leaves 16 bits (the 32-bit engine alone)";
+  case BRACETWILL_ANSWER_RULE: return "the quantizer's rule is not 1 or 2 (the call with a rule alone)";
   default: return "no answer has this number";
   }
 }
@@ -215,6 +217,12 @@ uint32_t bracetwill_quantize_block_tx(int64_t *coefs, size_t coefs_len, int32_t 
 /* The same at a small size and depth 8. Answers 0, 5, 6, 9. */
 BRACETWILL_NODISCARD
 uint32_t bracetwill_quantize_block(int64_t *coefs, size_t coefs_len, int32_t dc_quant, int32_t ac_quant);
+
+/* bracetwill_quantize_block_tx by a rule: 1 sends an exact half toward zero, as the two calls above do, and 2 away from it, as the
+ * recorder's firmware 2 does. Answers 19 (another rule), before all others; then 0, 1, 2, 5, 6, 9. */
+BRACETWILL_NODISCARD
+uint32_t bracetwill_quantize_block_rule(int64_t *coefs, size_t coefs_len, int32_t dc_quant, int32_t ac_quant, uint32_t tx_sz,
+                                        uint32_t bit_depth, uint32_t rule);
 
 /* The codeable limit of a depth, the greatest magnitude of a token; 0 for a depth that is not 8, 10 or 12. */
 BRACETWILL_NODISCARD

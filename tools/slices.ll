@@ -132,6 +132,15 @@ define i32 @bracetwill_quantize_block(ptr %coefs, i64 %coefs_len, i32 %dc_quant,
   ret i32 %answer
 }
 
+define i32 @bracetwill_quantize_block_rule(ptr %coefs, i64 %coefs_len, i32 %dc_quant, i32 %ac_quant, i32 %tx_sz, i32 %bit_depth, i32 %rule) {
+  %coefs.list = alloca { ptr, i64 }
+  store ptr %coefs, ptr %coefs.list
+  %coefs.count = getelementptr { ptr, i64 }, ptr %coefs.list, i32 0, i32 1
+  store i64 %coefs_len, ptr %coefs.count
+  %answer = call i32 @"exports::bracetwill_quantize_block_rule"(ptr %coefs.list, i32 %dc_quant, i32 %ac_quant, i32 %tx_sz, i32 %bit_depth, i32 %rule)
+  ret i32 %answer
+}
+
 define i64 @bracetwill_max_codeable_coef(i32 %bit_depth) {
   %answer = call i64 @"exports::bracetwill_max_codeable_coef"(i32 %bit_depth)
   ret i64 %answer

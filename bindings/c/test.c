@@ -686,6 +686,38 @@ static void quantize_refused(size_t len, int32_t dc, int32_t ac, uint32_t size, 
   check(same(list, before, sizeof list), what, -2, 0);
 }
 
+static void rule_refused(size_t len, int32_t dc, uint32_t size, uint32_t depth, uint32_t rule, int64_t value, uint32_t want, const char *what) {
+  filled(len - 1, value);
+  equal(bracetwill_quantize_block_rule(list, len, dc, 1, size, depth, rule), want, what);
+  check(same(list, before, sizeof list), what, -1, 0);
+}
+
+static void rules(void) {
+  const int64_t beyond = BRACETWILL_COEF_LIMIT + 1;
+  const int64_t of[][3] = {{2, 0, 1}, {3, 1, 1}, {6, 1, 2}, {7, 2, 2}, {-2, 0, -1}, {-6, -1, -2}};
+  for (uint32_t rule = 1; rule <= 2; rule++) {
+    for (size_t k = 0; k < 6; k++) list[k] = of[k][0];
+    equal(bracetwill_quantize_block_rule(list, 6, 4, 4, 0, 8, rule), BRACETWILL_ANSWER_DONE, "quantizer 4 by a rule");
+    for (size_t k = 0; k < 6; k++) equal(list[k], of[k][rule], "quantizer 4 by a rule: a token");
+    list[0] = 1;
+    list[1] = 2;
+    equal(bracetwill_quantize_block_rule(list, 2, 4, 3, 3, 10, rule), BRACETWILL_ANSWER_DONE, "by a rule at 32 by 32");
+    equal(list[0], rule == 2, "by a rule at 32 by 32, quantizer 4");
+    equal(list[1], 1, "by a rule at 32 by 32, quantizer 3");
+    equal(bracetwill_quantize_block_rule(NULL, 0, 1, 1, 3, 8, rule), BRACETWILL_ANSWER_DONE, "by a rule: no list");
+    rule_refused(16, 1, 0, 8, rule, beyond, BRACETWILL_ANSWER_COEFFICIENT, "by a rule: beyond");
+    rule_refused(BRACETWILL_LIST_LIMIT + 1, 1, 0, 8, rule, beyond, BRACETWILL_ANSWER_LENGTH, "by a rule: length");
+    rule_refused(BRACETWILL_LIST_LIMIT + 1, 0, 0, 8, rule, beyond, BRACETWILL_ANSWER_QUANTIZER, "by a rule: DC 0");
+    rule_refused(BRACETWILL_LIST_LIMIT + 1, 0, 4, 8, rule, beyond, BRACETWILL_ANSWER_SIZE, "by a rule: size");
+    rule_refused(BRACETWILL_LIST_LIMIT + 1, 0, 4, 9, rule, beyond, BRACETWILL_ANSWER_DEPTH, "by a rule: depth");
+  }
+  const uint32_t no_rules[] = {0, 3, 257, UINT32_MAX};
+  for (size_t k = 0; k < 4; k++) {
+    rule_refused(16, 1, 0, 8, no_rules[k], 0, BRACETWILL_ANSWER_RULE, "no rule");
+    rule_refused(BRACETWILL_LIST_LIMIT + 1, 0, 4, 9, no_rules[k], beyond, BRACETWILL_ANSWER_RULE, "no rule: before all others");
+  }
+}
+
 static void quantizers(void) {
   const int64_t beyond = BRACETWILL_COEF_LIMIT + 1;
   const int64_t of[][2] = {{2, 0}, {3, 1}, {6, 1}, {7, 2}, {-2, 0}, {-3, -1}, {-6, -1}, {-7, -2}};
@@ -1066,6 +1098,7 @@ int main(void) {
   forward_wht();
   forward_dct();
   quantizers();
+  rules();
   headers_refused();
   rooms_refused();
   listing_runs();

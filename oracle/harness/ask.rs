@@ -178,6 +178,17 @@ pub fn ask(c: &Call) -> Outcome {
             }
             answered(answer, coefs)
         }
+        39 => {
+            let (dc, ac, size, depth, rule) = (a(0) as i32, a(1) as i32, a(2) as u32, a(3) as u32, a(4) as u32);
+            let mut coefs = c.lists[0].clone();
+            let answer = rules::quantize_block_rule(rule, dc, ac, size, depth, &coefs);
+            match (answer, rule) {
+                (0, 1) => fwd_transform::quantize_block_tx(&mut coefs, dc, ac, size, depth),
+                (0, _) => rules::tokens_of_rule_2(dc, ac, size, depth, &mut coefs),
+                _ => {}
+            }
+            answered(answer, coefs)
+        }
         25 => {
             let (dc, ac) = (a(0) as i32, a(1) as i32);
             let mut coefs = c.lists[0].clone();

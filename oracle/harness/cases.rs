@@ -16,6 +16,7 @@ const FORWARD: i64 = rules::FORWARD_LIMIT as i64;
 const RESIDUAL: i64 = rules::RESIDUAL_LIMIT as i64;
 
 pub const DEPTHS: [u32; 3] = [8, 10, 12];
+const BAD_RULES: [u32; 6] = [0, 3, 4, 8, 257, u32::MAX];
 const BAD_DEPTHS: [u32; 12] = [0, 1, 7, 9, 11, 13, 14, 16, 32, 57, 64, u32::MAX];
 const BAD_SIZES: [u32; 6] = [4, 5, 8, 30, 255, u32::MAX];
 pub const BAD_TYPES: [u8; 5] = [4, 5, 8, 128, 255];
@@ -1294,9 +1295,12 @@ fn quantizer_length(r: &mut Rng) -> usize {
 fn quantize(r: &mut Rng, kind: u32) -> Call {
     let (dc, ac) = (quantizer(r), quantizer(r));
     let mut args = vec![dc.into(), ac.into()];
-    if kind == 24 {
+    if kind != 25 {
         args.push(r.below(4).into());
         args.push(r.pick(&DEPTHS).into());
+    }
+    if kind == 39 {
+        args.push(r.range(1, 2).into());
     }
     let count = quantizer_length(r);
     let mut list = coefs(r, count, dc, ac);
@@ -1331,9 +1335,12 @@ fn refused_quantize(r: &mut Rng, kind: u32, wanted: &[u8]) -> Call {
         list[k] = beyond(r, COEF);
     }
     let mut args: Vec<i128> = vec![dc.into(), ac.into()];
-    if kind == 24 {
+    if kind != 25 {
         args.push(if has(2) { r.pick(&BAD_SIZES).into() } else { r.below(4).into() });
         args.push(if has(1) { r.pick(&BAD_DEPTHS).into() } else { r.pick(&DEPTHS).into() });
+    }
+    if kind == 39 {
+        args.push(if has(19) { r.pick(&BAD_RULES).into() } else { r.range(1, 2).into() });
     }
     call(kind, args, vec![list])
 }
@@ -1365,7 +1372,7 @@ pub fn example() -> Recon {
 // ---- the systematic part ----
 
 /// The numbers that a call can refuse with, in their order.
-pub const REFUSALS: [(u32, &[u8]); 13] = [
+pub const REFUSALS: [(u32, &[u8]); 14] = [
     (20, &[2, 3, 4, 6, 9]),
     (21, &[2, 3, 4, 6, 9]),
     (22, &[1, 2, 3, 4, 5, 6, 7, 8, 9]),
@@ -1379,6 +1386,7 @@ pub const REFUSALS: [(u32, &[u8]); 13] = [
     (35, &[1, 2, 6, 13, 14, 17]),
     (37, &[2, 3, 4, 6, 9, 18]),
     (38, &[2, 6, 9]),
+    (39, &[19, 1, 2, 5, 6, 9]),
 ];
 
 /// A call to which each of these numbers applies (3 and 4 never do together).
@@ -1804,6 +1812,9 @@ fn systematic_coder(out: &mut dyn FnMut(Call)) {
             for q in [1, 2, 3, 4, 5, 7, 8, 32_767i128] {
                 let list: Vec<i64> = (-12..=12).collect();
                 out(call(24, vec![q, q, size, depth.into()], vec![list.clone()]));
+                for rule in 0..4 {
+                    out(call(39, vec![q, q, size, depth.into(), rule], vec![list.clone()]));
+                }
                 if size == 0 && depth == 8 {
                     out(call(25, vec![q, q], vec![list]));
                 }
@@ -1815,7 +1826,9 @@ fn systematic_coder(out: &mut dyn FnMut(Call)) {
                     list.push(-v.min(COEF));
                 }
                 out(call(24, vec![q, 3, size, depth.into()], vec![list.clone()]));
-                out(call(24, vec![3, q, size, depth.into()], vec![list]));
+                out(call(24, vec![3, q, size, depth.into()], vec![list.clone()]));
+                out(call(39, vec![q, 3, size, depth.into(), 2], vec![list.clone()]));
+                out(call(39, vec![3, q, size, depth.into(), 2], vec![list]));
             }
             for len in [0usize, 1, 2, 16, 64, 256, 1_023, 1_024, 1_025] {
                 out(call(24, vec![4, 9, size, depth.into()], vec![vec![-31; len]]));
@@ -1913,6 +1926,11 @@ pub fn worked(out: &mut dyn FnMut(Call)) {
         out(call(kind, args, vec![list]));
     }
     out(call(24, vec![3, 3, 3, 8], vec![vec![2]]));
+    for rule in [1, 2] {
+        out(call(39, vec![4, 4, 0, 8, rule], vec![vec![2, -2, 3, 6, 7]]));
+        out(call(39, vec![4, 4, 3, 8, rule], vec![vec![1]]));
+        out(call(39, vec![3, 3, 3, 8, rule], vec![vec![2]]));
+    }
     for coef in [2, 3, 6, 7] {
         out(best::call(0, rules::codeable(8), 4, coef));
     }
@@ -1986,7 +2004,7 @@ fn file(r: &mut Rng) -> Call {
 
 /// One random call. Most are of the calls that do the work.
 pub fn random(r: &mut Rng) -> Call {
-    match r.below(115) {
+    match r.below(118) {
         0 => round2(r),
         1 => brev(r),
         2 => call(r.pick(&[3, 4]), vec![angle(r)], vec![]),
@@ -2013,6 +2031,7 @@ pub fn random(r: &mut Rng) -> Call {
         105 => one_token(r),
         106..=107 => engine32(r),
         108..=109 => forward_dct(r),
+        110..=112 => quantize(r, 39),
         _ => {
             let (kind, numbers) = r.pick(&REFUSALS);
             let wanted: Vec<u8> = (0..r.range(1, 3)).map(|_| r.pick(numbers)).collect();

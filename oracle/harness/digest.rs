@@ -314,7 +314,15 @@ fn forward_wht(key: u64, d: &mut Digest) {
     d.list(block.into_iter());
 }
 
-fn quantize(key: u64, d: &mut Digest, sized: bool) {
+/// With a size and a depth, with a rule too, or with none of them.
+#[derive(Clone, Copy, PartialEq)]
+enum Coder {
+    Sized,
+    Plain,
+    Ruled,
+}
+
+fn quantize(key: u64, d: &mut Digest, coder: Coder) {
     let r = draw(key, 2);
     let count = match r % 16 {
         0 => r / 16 % 1041,
@@ -325,10 +333,18 @@ fn quantize(key: u64, d: &mut Digest, sized: bool) {
     let mut coefs = filled(count as usize, draw(key, 5), draw(key, 6) % 8);
     let (dc, ac) = (quantizer(draw(key, 3)), quantizer(draw(key, 4)));
     let (size, depth) = (size(draw(key, 1)), depth(draw(key, 7)));
-    let answer = if sized { rules::quantize_block_tx(dc, ac, size, depth, &coefs) } else { rules::quantize_block(dc, ac, &coefs) };
-    match (answer, sized) {
-        (0, true) => fwd_transform::quantize_block_tx(&mut coefs, dc, ac, size, depth),
-        (0, false) => fwd_transform::quantize_block(&mut coefs, dc, ac),
+    let rule = match coder {
+        Coder::Ruled => self::size(draw(key, 8)),
+        _ => 1,
+    };
+    let answer = match coder {
+        Coder::Plain => rules::quantize_block(dc, ac, &coefs),
+        _ => rules::quantize_block_rule(rule, dc, ac, size, depth, &coefs),
+    };
+    match (answer, coder) {
+        (0, Coder::Plain) => fwd_transform::quantize_block(&mut coefs, dc, ac),
+        (0, _) if rule == 2 => rules::tokens_of_rule_2(dc, ac, size, depth, &mut coefs),
+        (0, _) => fwd_transform::quantize_block_tx(&mut coefs, dc, ac, size, depth),
         _ => {}
     }
     d.feed(answer.into());
@@ -409,13 +425,13 @@ fn file(key: u64, d: &mut Digest) {
 type Kind = fn(u64, &mut Digest);
 
 /// The kinds of calls. A new one is added at the end.
-const KINDS: [(&str, Kind); 14] = [
+const KINDS: [(&str, Kind); 15] = [
     ("inverse_transform_2d", |key, d| driver(key, d, Driver::Fast)),
     ("inverse_transform_2d_reference", |key, d| driver(key, d, Driver::Reference)),
     ("reconstruct_block", |key, d| block(key, d, false)),
     ("forward_wht_2d", forward_wht),
-    ("quantize_block_tx", |key, d| quantize(key, d, true)),
-    ("quantize_block", |key, d| quantize(key, d, false)),
+    ("quantize_block_tx", |key, d| quantize(key, d, Coder::Sized)),
+    ("quantize_block", |key, d| quantize(key, d, Coder::Plain)),
     ("max_codeable_coef", max_codeable),
     ("replay and blockrun", file),
     ("reconstruct_block_report", |key, d| block(key, d, true)),
@@ -424,6 +440,7 @@ const KINDS: [(&str, Kind); 14] = [
     ("inverse_transform_2d_rows", driver_rows),
     ("inverse_transform_2d_32", |key, d| driver(key, d, Driver::Engine32)),
     ("forward_dct_2d", |key, d| driver(key, d, Driver::Forward)),
+    ("quantize_block_rule", |key, d| quantize(key, d, Coder::Ruled)),
 ];
 
 pub fn print(seed: u64, count: u64) {

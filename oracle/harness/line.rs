@@ -60,6 +60,7 @@ pub const SHAPES: &[Shape] = &[
     Shape { kind: 36, name: "quantize", args: &["coef", "q", "size", "limit"], lists: &[], nums: &["token"], after: NONE },
     Shape { kind: 37, name: "inverse_transform_2d_32", args: &["n", "type", "lossless"], lists: &["block"], nums: &["answer"], after: T },
     Shape { kind: 38, name: "forward_dct_2d", args: &["n"], lists: &["block"], nums: &["answer"], after: T },
+    Shape { kind: 39, name: "quantize_block_rule", args: &["dc", "ac", "size", "depth", "rule"], lists: &["coefs"], nums: &["answer"], after: T },
 ];
 
 pub fn shape(kind: u32) -> Option<&'static Shape> {

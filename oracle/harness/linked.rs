@@ -13,7 +13,7 @@ mod archive;
 use archive::*;
 
 /// The kinds that are exported.
-const KINDS: [u32; 15] = [20, 21, 22, 23, 24, 25, 26, 30, 31, 32, 33, 34, 35, 37, 38];
+const KINDS: [u32; 16] = [20, 21, 22, 23, 24, 25, 26, 30, 31, 32, 33, 34, 35, 37, 38, 39];
 
 const MARGIN: usize = 8;
 
@@ -120,6 +120,12 @@ fn ours(c: &Call) -> (Outcome, bool) {
             let mut l = first();
             let (dc, ac, size, depth) = (a(0) as i32, a(1) as i32, a(2) as u32, a(3) as u32);
             let answer = unsafe { bracetwill_quantize_block_tx(l.at(), l.len(), dc, ac, size, depth) };
+            answered(answer, l)
+        }
+        39 => {
+            let mut l = first();
+            let (dc, ac, size, depth, rule) = (a(0) as i32, a(1) as i32, a(2) as u32, a(3) as u32, a(4) as u32);
+            let answer = unsafe { bracetwill_quantize_block_rule(l.at(), l.len(), dc, ac, size, depth, rule) };
             answered(answer, l)
         }
         25 => {

@@ -53,7 +53,8 @@ fn class(c: &Call, o: &Outcome) -> Vec<i128> {
         32 | 34 => vec![answer, small(c.args[0])],
         33 => vec![answer, small(c.args[0]), small(c.args[5])],
         24 if answer == 0 => vec![0, c.args[2], c.args[3]],
-        23..=25 => vec![answer],
+        39 if answer == 0 => vec![0, c.args[2], c.args[3], c.args[4]],
+        23..=25 | 39 => vec![answer],
         36 => vec![i128::from(c.args[2] == 3), c.args[1].min(4), c.args[3].min(6)],
         30 => {
             // the header's answer, and which answers its records have
@@ -123,8 +124,9 @@ fn room(c: &Call, o: &Outcome) -> (usize, usize) {
         22 => (300, 2),
         23 if answer == 0 => (300, 150),
         24 if answer == 0 => (250, 12),
+        39 if answer == 0 => (250, 6),
         25 if answer == 0 => (250, 100),
-        23..=25 => (250, 12),
+        23..=25 | 39 => (250, 12),
         36 => (100, 6),
         _ => (600, 5),
     }

@@ -252,6 +252,23 @@ pub fn quantize_block_tx(dc: i32, ac: i32, size: u32, depth: u32, coefs: &[i64])
     quantize_block(dc, ac, coefs)
 }
 
+pub fn quantize_block_rule(rule: u32, dc: i32, ac: i32, size: u32, depth: u32, coefs: &[i64]) -> u8 {
+    if rule != 1 && rule != 2 {
+        return 19;
+    }
+    quantize_block_tx(dc, ac, size, depth, coefs)
+}
+
+/// The tokens of rule 2, which the Rust has not: floor((2a + q) / (2q)), a doubled at 32 by 32, at most the codeable limit, with the coefficient's sign.
+pub fn tokens_of_rule_2(dc: i32, ac: i32, size: u32, depth: u32, coefs: &mut [i64]) {
+    for (place, coef) in coefs.iter_mut().enumerate() {
+        let q = u64::from((if place == 0 { dc } else { ac }).unsigned_abs());
+        let a = coef.unsigned_abs() << u32::from(size == 3);
+        let m = ((2 * a + q) / (2 * q)).min(codeable(depth) as u64) as i64;
+        *coef = coef.signum() * m;
+    }
+}
+
 pub fn quantize_block(dc: i32, ac: i32, coefs: &[i64]) -> u8 {
     if !good_quant(dc) || !good_quant(ac) {
         return 5;

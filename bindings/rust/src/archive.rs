@@ -74,6 +74,15 @@ unsafe extern "C" {
         bit_depth: u32,
     ) -> u32;
     pub fn bracetwill_quantize_block(coefs: *mut i64, coefs_len: usize, dc_quant: i32, ac_quant: i32) -> u32;
+    pub fn bracetwill_quantize_block_rule(
+        coefs: *mut i64,
+        coefs_len: usize,
+        dc_quant: i32,
+        ac_quant: i32,
+        tx_sz: u32,
+        bit_depth: u32,
+        rule: u32,
+    ) -> u32;
     pub fn bracetwill_max_codeable_coef(bit_depth: u32) -> i64;
     pub fn bracetwill_replay(
         file: *const u8,

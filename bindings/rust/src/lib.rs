@@ -881,6 +881,24 @@ pub mod fwd_transform {
         answer(unsafe { archive::bracetwill_quantize_block(coefs.as_mut_ptr(), coefs.len(), dc_quant, ac_quant) })
     }
 
+    /// [`try_quantize_block_tx`] by a rule: 1 sends an exact half toward zero, as that call does, and 2 away from it, as the recorder's
+    /// firmware 2 does. Refused with 19 (another rule) before all others; then with 1, 2, 5, 6 or 9.
+    ///
+    /// ```
+    /// use bracetwill::{Refusal, fwd_transform::try_quantize_block_rule};
+    ///
+    /// for (rule, token) in [(1, 0), (2, 1)] {
+    ///     let mut coefs = [2, -2];
+    ///     assert_eq!(try_quantize_block_rule(&mut coefs, 4, 4, 0, 8, rule), Ok(()));
+    ///     assert_eq!(coefs, [token, -token]);
+    /// }
+    /// assert_eq!(try_quantize_block_rule(&mut [2], 0, 4, 9, 9, 3), Err(Refusal::Rule));
+    /// ```
+    pub fn try_quantize_block_rule(coefs: &mut [i64], dc_quant: i32, ac_quant: i32, tx_sz: u32, bit_depth: u32, rule: u32) -> Result<(), Refusal> {
+        // SAFETY: as above.
+        answer(unsafe { archive::bracetwill_quantize_block_rule(coefs.as_mut_ptr(), coefs.len(), dc_quant, ac_quant, tx_sz, bit_depth, rule) })
+    }
+
     /// [`try_forward_wht_2d`]; a refusal panics.
     ///
     /// ```
@@ -926,6 +944,18 @@ pub mod fwd_transform {
     #[track_caller]
     pub fn quantize_block(coefs: &mut [i64], dc_quant: i32, ac_quant: i32) {
         taken("quantize_block", try_quantize_block(coefs, dc_quant, ac_quant));
+    }
+
+    /// [`try_quantize_block_rule`]; a refusal panics.
+    ///
+    /// ```
+    /// let mut coefs = [2, 6, 7];
+    /// bracetwill::fwd_transform::quantize_block_rule(&mut coefs, 4, 4, 0, 8, 2);
+    /// assert_eq!(coefs, [1, 2, 2]);
+    /// ```
+    #[track_caller]
+    pub fn quantize_block_rule(coefs: &mut [i64], dc_quant: i32, ac_quant: i32, tx_sz: u32, bit_depth: u32, rule: u32) {
+        taken("quantize_block_rule", try_quantize_block_rule(coefs, dc_quant, ac_quant, tx_sz, bit_depth, rule));
     }
 
     /// The greatest magnitude of a token; 0 for a depth that is not 8, 10 or 12.

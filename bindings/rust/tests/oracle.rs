@@ -361,6 +361,19 @@ fn compare(c: &Call) -> Option<(&'static str, bool)> {
                 |l| fwd::try_quantize_block_tx(l, dc, ac, size, depth),
             )
         }
+        39 => {
+            let (dc, ac, size, depth, rule) = (a(0) as i32, a(1) as i32, a(2) as u32, a(3) as u32, a(4) as u32);
+            in_place(
+                &c.lists[0],
+                rules::quantize_block_rule(rule, dc, ac, size, depth, &c.lists[0]),
+                |l| match rule {
+                    1 => fwd_transform::quantize_block_tx(l, dc, ac, size, depth),
+                    _ => rules::tokens_of_rule_2(dc, ac, size, depth, l),
+                },
+                |l| fwd::quantize_block_rule(l, dc, ac, size, depth, rule),
+                |l| fwd::try_quantize_block_rule(l, dc, ac, size, depth, rule),
+            )
+        }
         25 => {
             let (dc, ac) = (a(0) as i32, a(1) as i32);
             in_place(
@@ -411,7 +424,7 @@ fn main() {
         println!("{name:<32} {a:>7} alike {b:>4} not");
         (same, differ) = (same + a, differ + b);
     }
-    assert_eq!(tally.len(), 15, "every public call is compared");
+    assert_eq!(tally.len(), 16, "every public call is compared");
     println!("{same} passed, {differ} failed");
     std::process::exit(i32::from(differ != 0));
 }

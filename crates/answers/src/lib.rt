@@ -6,7 +6,7 @@ ghost use Rattle.answers.specs.Answers.{number};
 ghost use Rattle.answers.specs.Bad.{badDepth, badSize, badSide, badLossless, badTxType, anyBeyond};
 ghost use Rattle.answers.specs.Sizes.{side, area};
 
-// The answers of all calls and of the VBK reader, in the order of their numbers, 0 to 18.
+// The answers of all calls and of the VBK reader, in the order of their numbers, 0 to 19.
 pub enum Answer {
     Done,
     Depth,
@@ -27,6 +27,7 @@ pub enum Answer {
     Place,
     Room,
     Narrow,
+    Rule,
 }
 
 // Magnitude of dequantized values, of the 2D driver's input and of the quantizer's.
@@ -74,6 +75,7 @@ pub fn code(a: Answer) -> u32
         Answer::Place => 16,
         Answer::Room => 17,
         Answer::Narrow => 18,
+        Answer::Rule => 19,
     }
 }
 

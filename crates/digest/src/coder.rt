@@ -65,6 +65,28 @@ pub fn quantize(key: u64, digest: u64) -> u64 {
     code_list(key, digest, false)
 }
 
+// One call with a rule, which is drawn as a size is: 1 and 2 are good, others are refused.
+fn code_by_rule(coefs: &mut [i64], key: u64) -> u32 {
+    let dc = DcQuant(draws::quantizer(draws::draw(key, 3)));
+    let ac = AcQuant(draws::quantizer(draws::draw(key, 4)));
+    let size = draws::size(draws::draw(key, 1));
+    let depth = draws::depth(draws::draw(key, 7));
+    let rule = draws::size(draws::draw(key, 8));
+    answers::code(fwd_transform::quantize_block_rule(coefs, dc, ac, size, depth, rule))
+}
+
+fn coded_by_rule(coefs: &mut [i64], key: u64, digest: u64) -> u64 {
+    draws::fill(coefs, draws::draw(key, 5), draws::draw(key, 6) % 8);
+    let answer = code_by_rule(coefs, key);
+    draws::feed_list(draws::feed(digest, answer as u64), coefs)
+}
+
+pub fn quantize_rule(key: u64, digest: u64) -> u64 {
+    let mut room = room();
+    let count = draws::within(quantizer_lent(draws::draw(key, 2)), &room);
+    coded_by_rule(&mut room[..count], key, digest)
+}
+
 pub fn max_codeable(key: u64, digest: u64) -> u64 {
     let most = quant::max_codeable_coef(draws::depth(draws::draw(key, 7)));
     draws::feed(digest, draws::bits(most))

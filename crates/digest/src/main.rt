@@ -12,7 +12,7 @@ use libc::STDIN_FILENO;
 use libc::STDOUT_FILENO;
 
 // Kinds of calls. A new one is added at the end.
-const KINDS: u64 = 14;
+const KINDS: u64 = 15;
 
 // The digest after one call more.
 fn one(kind: u64, key: u64, digest: u64) -> u64 {
@@ -30,7 +30,8 @@ fn one(kind: u64, key: u64, digest: u64) -> u64 {
         10 => rows::replace_token(key, digest),
         11 => rows::inverse_transform_2d_rows(key, digest),
         12 => drivers::engine32(key, digest),
-        _ => drivers::forward_dct(key, digest),
+        13 => drivers::forward_dct(key, digest),
+        _ => coder::quantize_rule(key, digest),
     }
 }
 
@@ -61,7 +62,8 @@ fn name(kind: u64) -> bool {
         10 => io::write_all(STDOUT_FILENO, b"replace_token                  "),
         11 => io::write_all(STDOUT_FILENO, b"inverse_transform_2d_rows      "),
         12 => io::write_all(STDOUT_FILENO, b"inverse_transform_2d_32        "),
-        _ => io::write_all(STDOUT_FILENO, b"forward_dct_2d                 "),
+        13 => io::write_all(STDOUT_FILENO, b"forward_dct_2d                 "),
+        _ => io::write_all(STDOUT_FILENO, b"quantize_block_rule            "),
     }
 }
 

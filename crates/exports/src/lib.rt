@@ -18,7 +18,7 @@ ghost use Rattle.reconstruct.specs.Reconstruct.{answerOf as reconstructAnswer, 
 ghost use Rattle.report.specs.Report.{answerOf as reportAnswer};
 ghost use Rattle.fwd_dct.specs.Forward.{answerOf as dctAnswer, blockAfter as dctAfter};
 ghost use Rattle.fwd_transform.specs.ForwardWht.{whtAnswer, whtAfter};
-ghost use Rattle.fwd_transform.specs.Quantize.{answerOf as quantizeAnswer, coefsAfter};
+ghost use Rattle.fwd_transform.specs.Quantize.{answerOf as quantizeAnswer, coefsAfter, ruleAnswer, ruledAfter};
 ghost use Rattle.vbk.specs.Promises.{Printed};
 ghost use Rattle.exports.specs.Told.{Told};
 ghost use Rattle.exports.specs.Write.{requestAnswer, bufferAfter};
@@ -296,6 +296,29 @@ pub extern "C" fn bracetwill_quantize_block(coefs: &mut [i64], dc_quant: i32, ac
     ensures { λ r. ⌜ Told quantizeAnswer coefsAfter (record { coefs = now (coefs .entry); dc = record { 0 = «dc_quant» }; ac = record { 0 = «ac_quant» }; size = 0; depth = 8 }) r (now (coefs .exit)) ⌝ }
 {
     let a = fwd_transform::quantize_block(coefs, DcQuant(dc_quant), AcQuant(ac_quant));
+    answers::code(a)
+}
+
+// Coefficients to tokens by rule 1 or 2, at any size and depth.
+#[no_mangle]
+pub extern "C" fn bracetwill_quantize_block_rule(
+    coefs: &mut [i64],
+    dc_quant: i32,
+    ac_quant: i32,
+    tx_sz: u32,
+    bit_depth: u32,
+    rule: u32,
+) -> u32
+    ensures { λ r. ⌜ Told (ruleAnswer rule) (ruledAfter rule) (record { coefs = now (coefs .entry); dc = record { 0 = «dc_quant» }; ac = record { 0 = «ac_quant» }; size = «tx_sz»; depth = «bit_depth» }) r (now (coefs .exit)) ⌝ }
+{
+    let a = fwd_transform::quantize_block_rule(
+        coefs,
+        DcQuant(dc_quant),
+        AcQuant(ac_quant),
+        tx_sz,
+        bit_depth,
+        rule,
+    );
     answers::code(a)
 }
 

@@ -1,4 +1,4 @@
--- The quantizing calls leave the best list of tokens, and no other list is.
+-- The quantizing calls leave a list of nearest tokens; by rule 1 the best, by rule 2 at the small sizes the greatest of the nearest, and no other list is.
 use mathlib.Core.List.{List}
 use mathlib.Core.Path.{_≡_, sym, _∙_}
 use mathlib.Core.Bool.{false}
@@ -9,13 +9,17 @@ use Rattle.whole.proofs.Lists.{length-tabulate, getD-tabulate, tabulate-is}
 use Rattle.answers.specs.Answers.{number}
 use Rattle.answers.specs.Bad.{badQuantizer}
 use Rattle.answers.specs.declared.Answer.{Answer}
+use Rattle.answers.specs.Limits.{codeable}
+use Rattle.quant.specs.Choice.{Nearest, Least, Greatest}
 use Rattle.quant.specs.Places.{quantizerAt}
-use Rattle.quant.proofs.Nearness.{quantize-least, only-least}
-use Rattle.fwd_transform.specs.Quantize.{Input, answerOf, tokenAt, tokensOf, Quantized}
-use Rattle.fwd_transform.specs.Best.{Best}
-use Rattle.fwd_transform.proofs.Quantizer.{done, fine, place-ok}
+use Rattle.quant.specs.Token.{quantize}
+use Rattle.quant.proofs.Nearness.{quantize-nearest, quantize-least, only-least}
+use Rattle.quant.proofs.Rules.{quantize-greatest, only-greatest}
+use Rattle.fwd_transform.specs.Quantize.{Input, answerOf, tokenAt, tokensOf, Quantized, badRule, ruleAnswer, Ruled}
+use Rattle.fwd_transform.specs.Best.{Chosen, Best}
+use Rattle.fwd_transform.proofs.Quantizer.{done, known-rest, fine, place-ok}
 
-module _ (u : Input) (taken : answerOf u ≡ 0) where
+module _ (Choice : ℕ → ℕ → ℤ → ℤ → ℤ → Type 0) (rule : ℕ) (u : Input) (taken : answerOf u ≡ 0) where
   q : ℕ → ℤ
   q k = quantizerAt (u .dc) (u .ac) k
 
@@ -25,32 +29,69 @@ module _ (u : Input) (taken : answerOf u ≡ 0) where
   good : (k : ℕ) → badQuantizer (quantizerAt (u .dc) (u .ac) k) ≡ false
   good k = place-ok (u .dc) (u .ac) k (fine u taken .dc-ok) (fine u taken .ac-ok)
 
-  tokens-best : Best u (tokensOf u)
+  -- what the rule chooses of each coefficient, it chooses of the list
+  tokens-chosen : ((q coef : ℤ) → badQuantizer q ≡ false → Choice (u .size) (codeable (u .depth)) q coef (quantize rule (u .size) (codeable (u .depth)) q coef))
+      → Chosen Choice u (tokensOf rule u)
   unfolding q coef tokensOf tokenAt
-  tokens-best =
+  tokens-chosen c =
       record {
-        as-many = length-tabulate (tokenAt u) (length (u .coefs));
-        each-least = λ k l. rw (getD-tabulate (tokenAt u) (length (u .coefs)) k (pos 0) l) (quantize-least (u .size) (u .depth) (q k) (coef k) (good k));
+        as-many = length-tabulate (tokenAt rule u) (length (u .coefs));
+        each-one = λ k l. rw (getD-tabulate (tokenAt rule u) (length (u .coefs)) k (pos 0) l) (c (q k) (coef k) (good k));
       }
 
-  best-tokens : (tokens : List ℤ) → Best u tokens → tokens ≡ tokensOf u
+  -- and where nothing else is chosen of a coefficient, no other list is
+  chosen-tokens : ((q coef token : ℤ) → badQuantizer q ≡ false → Choice (u .size) (codeable (u .depth)) q coef token → token ≡ quantize rule (u .size) (codeable (u .depth)) q coef)
+      → (tokens : List ℤ) → Chosen Choice u tokens → tokens ≡ tokensOf rule u
   unfolding q coef tokensOf tokenAt
-  best-tokens tokens b =
-      tabulate-is (pos 0) (tokenAt u) tokens (length (u .coefs)) (b .as-many)
-      (λ k l. only-least (u .size) (u .depth) (q k) (coef k) (getD tokens k (pos 0)) (good k) (b .each-least k l))
+  chosen-tokens o tokens b =
+      tabulate-is (pos 0) (tokenAt rule u) tokens (length (u .coefs)) (b .as-many)
+      (λ k l. o (q k) (coef k) (getD tokens k (pos 0)) (good k) (b .each-one k l))
 
--- the call took what it answers 0 to
-is-taken : (u : Input) (a : Answer) (after : List ℤ) → Quantized u a after → number a ≡ 0 → answerOf u ≡ 0
-is-taken u a after p h = sym (p .answered) ∙ h
+-- ---- the calls of rule 1
+module _ (u : Input) (a : Answer) (after : List ℤ) (p : Quantized u a after) (h : number a ≡ 0) where
+  is-taken : answerOf u ≡ 0
+  is-taken = sym (p .answered) ∙ h
 
--- WHAT A CALL LEAVES THAT IS DONE IS THE BEST
-pub call-best : (u : Input) (a : Answer) (after : List ℤ) → Quantized u a after → number a ≡ 0 → Best u after
-call-best u a after p h = let t = is-taken u a after p h in rw (p .written ∙ sym (done u t)) (tokens-best u t)
+  left : after ≡ tokensOf 1 u
+  unfolding badRule
+  left = p .written ∙ sym (done u 1 is-taken)
 
--- AND WHATEVER IS THE BEST IS WHAT IT LEAVES
-pub only-best : (u : Input) (a : Answer) (after tokens : List ℤ) → Quantized u a after → number a ≡ 0 → Best u tokens → tokens ≡ after
-only-best u a after tokens p h b = let t = is-taken u a after p h in best-tokens u t tokens b ∙ done u t ∙ sym (p .written)
+  -- WHAT A CALL LEAVES THAT IS DONE IS THE BEST
+  pub call-best : Best u after
+  call-best = rw left (tokens-chosen Least 1 u is-taken (quantize-least (u .size) (u .depth)))
+
+  -- AND WHATEVER IS THE BEST IS WHAT IT LEAVES
+  pub only-best : (tokens : List ℤ) → Best u tokens → tokens ≡ after
+  only-best tokens b = chosen-tokens Least 1 u is-taken (only-least (u .size) (u .depth)) tokens b ∙ sym left
 
 -- so the promise could be written with the statement in the place of the formula
 pub best-promised : (u : Input) (a : Answer) (tokens : List ℤ) → answerOf u ≡ 0 → number a ≡ 0 → Best u tokens → Quantized u a tokens
-best-promised u a tokens t h b = record { answered = h ∙ sym t; written = best-tokens u t tokens b ∙ done u t }
+unfolding badRule
+best-promised u a tokens t h b = record { answered = h ∙ sym t; written = chosen-tokens Least 1 u t (only-least (u .size) (u .depth)) tokens b ∙ done u 1 t }
+
+-- ---- the call that takes a rule
+module _ (rule : ℕ) (u : Input) (a : Answer) (after : List ℤ) (p : Ruled rule u a after) (h : number a ≡ 0) where
+  rule-taken : ruleAnswer rule u ≡ 0
+  rule-taken = sym (p .answered) ∙ h
+
+  rule-left : after ≡ tokensOf rule u
+  rule-left = p .written ∙ sym (done u rule rule-taken)
+
+  -- EACH TOKEN THAT IT LEAVES IS NEAREST, whatever the rule
+  pub rule-nearest : Chosen Nearest u after
+  rule-nearest = rw rule-left (tokens-chosen Nearest rule u (known-rest u rule rule-taken) (quantize-nearest rule (u .size) (codeable (u .depth))))
+
+  -- BY RULE 1 THE BEST
+  pub rule-1-best : rule ≡ 1 → Best u after
+  rule-1-best e = rw (rule-left, e) (tokens-chosen Least 1 u (known-rest u rule rule-taken) (quantize-least (u .size) (u .depth)))
+
+  -- BY RULE 2 AT THE SMALL SIZES THE GREATEST OF THE NEAREST, and no other list is
+  module _ (e : rule ≡ 2) (s : u .size ≡ 3 → ⊥) where
+    pub rule-2-greatest : Chosen Greatest u after
+    rule-2-greatest =
+        rw (rule-left, e) (tokens-chosen Greatest 2 u (known-rest u rule rule-taken) (λ q coef. quantize-greatest (u .size) (codeable (u .depth)) q coef s))
+
+    pub only-rule-2 : (tokens : List ℤ) → Chosen Greatest u tokens → tokens ≡ after
+    only-rule-2 tokens b =
+        chosen-tokens Greatest 2 u (known-rest u rule rule-taken) (λ q coef token. only-greatest (u .size) (codeable (u .depth)) q coef token s) tokens b
+        ∙ sym (rw e at rule-left)

@@ -1,5 +1,5 @@
 -- The token law for whole lists, as the calls see them: the coefficients of codeable tokens are taken, and each token is given back.
-use mathlib.Core.Path.{_≡_, sym, ap, _∙_}
+use mathlib.Core.Path.{_≡_, refl, sym, ap, _∙_}
 use mathlib.Core.Bool.{false}
 use mathlib.Core.List.{List}
 use Prim.Native.Nat.{ℕ, _≤_, _<_}
@@ -18,8 +18,8 @@ use Rattle.quant.specs.Token.{dequant, quantize}
 use Rattle.quant.specs.declared.AcQuant.{AcQuant}
 use Rattle.quant.specs.declared.DcQuant.{DcQuant}
 use Rattle.quant.proofs.TokenLaw.{token-law}
-use Rattle.fwd_transform.specs.Quantize.{Input, answerOf, tokenAt, tokensOf, Quantized}
-use Rattle.fwd_transform.proofs.Quantizer.{done, place-ok}
+use Rattle.fwd_transform.specs.Quantize.{Input, answerOf, tokenAt, tokensOf, Quantized, badRule, Ruled}
+use Rattle.fwd_transform.proofs.Quantizer.{done, known, place-ok}
 
 -- what the call is given: the coefficients of these tokens
 abbrev pub requantized : ℕ → ℕ → DcQuant → AcQuant → List ℤ → Input
@@ -53,13 +53,21 @@ module _ (size depth : ℕ) (dc : DcQuant) (ac : AcQuant) (tokens : List ℤ) (h
   taken =
       rw (h .depth-ok, le-ltb 3 size (h .size-ok), h .dc-ok, h .ac-ok, length-all, le-ltb LIST_LIMIT (length tokens) (h .length-ok), rw length-all at within)
 
-  -- THE TOKEN LAW, for lists
-  pub list-law : tokensOf (requantized size depth dc ac tokens) ≡ givenBackAll size dc ac tokens
+  -- THE TOKEN LAW, for lists, under every rule
+  pub list-law : (rule : ℕ) → tokensOf rule (requantized size depth dc ac tokens) ≡ givenBackAll size dc ac tokens
   unfolding tokensOf tokenAt givenBackAll
-  list-law =
-      rw length-all (tabulate-same _ _ (length tokens) (λ k l. ap (quantize size (codeable depth) (quantizerAt dc ac k)) (at-place k l)
-      ∙ token-law size depth (quantizerAt dc ac k) (getD tokens k (pos 0)) (place-ok dc ac k (h .dc-ok) (h .ac-ok)) (h .tokens-ok k l)))
+  list-law rule =
+      rw length-all (tabulate-same _ _ (length tokens) (λ k l. ap (quantize rule size (codeable depth) (quantizerAt dc ac k)) (at-place k l)
+      ∙ token-law rule size depth (quantizerAt dc ac k) (getD tokens k (pos 0)) (place-ok dc ac k (h .dc-ok) (h .ac-ok)) (h .tokens-ok k l)))
 
   -- whatever meets the promise
+  pub rule-law : (rule : ℕ) (a : Answer) (after : List ℤ) → badRule rule ≡ false → Ruled rule (requantized size depth dc ac tokens) a after
+      → (number a ≡ 0) × (after ≡ givenBackAll size dc ac tokens)
+  rule-law rule a after r p =
+      let u = requantized size depth dc ac tokens in
+      let e = known u rule r ∙ taken in
+      (p .answered ∙ e, p .written ∙ sym (done u rule e) ∙ list-law rule)
+
   pub call-law : (a : Answer) (after : List ℤ) → Quantized (requantized size depth dc ac tokens) a after → (number a ≡ 0) × (after ≡ givenBackAll size dc ac tokens)
-  call-law a after p = (p .answered ∙ taken, p .written ∙ sym (done (requantized size depth dc ac tokens) taken) ∙ list-law)
+  unfolding badRule
+  call-law a after p = rule-law 1 a after refl (record { answered = p .answered; written = p .written })

@@ -18,7 +18,7 @@ use Rattle.answers.proofs.Passed.{none-beyond}
 use Rattle.quant.specs.Places.{quantizerAt}
 use Rattle.quant.specs.declared.AcQuant.{AcQuant}
 use Rattle.quant.specs.declared.DcQuant.{DcQuant}
-use Rattle.fwd_transform.specs.Quantize.{Input, answerOf, tokenAt, tokensOf}
+use Rattle.fwd_transform.specs.Quantize.{Input, answerOf, tokenAt, tokensOf, badRule, ruleAnswer, ruledAfter}
 
 neither : (a b : Bool) → a || b ≡ false → (a ≡ false) × (b ≡ false)
 neither true b h = (h, cc)
@@ -35,11 +35,25 @@ place-ok dc ac k d a = go (eqb k 0) refl
 
 module _ (i : Input) where
   -- a refusal leaves the list
-  pub refused : (answerOf i ≡ 0 → ⊥) → i .coefs ≡ cond (eqb (answerOf i) 0) (tokensOf i) (i .coefs)
-  refused h = rw (ne-eqb (answerOf i) 0 h)
+  module _ (rule : ℕ) where
+    pub refused : (ruleAnswer rule i ≡ 0 → ⊥) → i .coefs ≡ ruledAfter rule i
+    refused h = rw (ne-eqb (ruleAnswer rule i) 0 h)
 
-  pub done : answerOf i ≡ 0 → tokensOf i ≡ cond (eqb (answerOf i) 0) (tokensOf i) (i .coefs)
-  done h = rw (eq-eqb (answerOf i) 0 h)
+    pub done : ruleAnswer rule i ≡ 0 → tokensOf rule i ≡ ruledAfter rule i
+    done h = rw (eq-eqb (ruleAnswer rule i) 0 h)
+
+    -- a rule that is known leaves the answer to the rest
+    pub known : badRule rule ≡ false → ruleAnswer rule i ≡ answerOf i
+    known h = rw h
+
+    pub unknown : badRule rule ≡ true → ruleAnswer rule i ≡ 19
+    unknown h = rw h
+
+    pub known-rule : ruleAnswer rule i ≡ 0 → badRule rule ≡ false
+    known-rule h = pass (badRule rule) 18 _ h
+
+    pub known-rest : ruleAnswer rule i ≡ 0 → answerOf i ≡ 0
+    known-rest h = rest (badRule rule) 18 _ h
 
   -- what answer 0 says of the input
   pub record Fine : Type 0 where
@@ -69,9 +83,9 @@ module _ (i : Input) where
       }
 
   -- the loop: turn k meets the coefficient as it came
-  pub turn : (k : ℕ) (l : List ℤ) → l ≡ fill k (tokenAt i) (i .coefs) → getD l k (pos 0) ≡ getD (i .coefs) k (pos 0)
-  turn k l e = rw e (fill-rest (pos 0) k (tokenAt i) (i .coefs) k (omega arith))
+  pub turn : (rule k : ℕ) (l : List ℤ) → l ≡ fill k (tokenAt rule i) (i .coefs) → getD l k (pos 0) ≡ getD (i .coefs) k (pos 0)
+  turn rule k l e = rw e (fill-rest (pos 0) k (tokenAt rule i) (i .coefs) k (omega arith))
 
-  pub filled : (k : ℕ) (l : List ℤ) → k ≤ length (i .coefs) → length (i .coefs) ≤ k → l ≡ fill k (tokenAt i) (i .coefs) → l ≡ tokensOf i
+  pub filled : (rule k : ℕ) (l : List ℤ) → k ≤ length (i .coefs) → length (i .coefs) ≤ k → l ≡ fill k (tokenAt rule i) (i .coefs) → l ≡ tokensOf rule i
   unfolding tokensOf
-  filled k l p q e = fill-done (tokenAt i) (i .coefs) k (length (i .coefs)) p q e ∙ fill-all (pos 0) (tokenAt i) (i .coefs)
+  filled rule k l p q e = fill-done (tokenAt rule i) (i .coefs) k (length (i .coefs)) p q e ∙ fill-all (pos 0) (tokenAt rule i) (i .coefs)

@@ -1,5 +1,5 @@
 -- The quantizing calls: a list of coefficients becomes the list of their tokens.
-use mathlib.Core.Bool.{_||_, cond}
+use mathlib.Core.Bool.{Bool, _||_, cond}
 use mathlib.Core.List.{List, [], _∷_}
 use mathlib.Core.Path.{_≡_}
 use Prim.Native.Nat.{ℕ}
@@ -35,19 +35,37 @@ answerOf u =
     ∷ (9, anyBeyond COEF_LIMIT (length (u .coefs)) (u .coefs))
     ∷ [])
 
--- the token at place k
-unfoldable pub tokenAt : Input → ℕ → ℤ
-tokenAt u k = quantize (u .size) (codeable (u .depth)) (quantizerAt (u .dc) (u .ac) k) (getD (u .coefs) k (pos 0))
+-- the token at place k under a rule
+unfoldable pub tokenAt : ℕ → Input → ℕ → ℤ
+tokenAt rule u k = quantize rule (u .size) (codeable (u .depth)) (quantizerAt (u .dc) (u .ac) k) (getD (u .coefs) k (pos 0))
 
 -- the tokens of the whole list
-unfoldable pub tokensOf : Input → List ℤ
-tokensOf u = tabulate (tokenAt u) (length (u .coefs))
+unfoldable pub tokensOf : ℕ → Input → List ℤ
+tokensOf rule u = tabulate (tokenAt rule u) (length (u .coefs))
 
--- the list afterwards: as it was under a refusal
+-- the list afterwards, by rule 1: as it was under a refusal
 abbrev pub coefsAfter : Input → List ℤ
-coefsAfter u = cond (eqb (answerOf u) 0) (tokensOf u) (u .coefs)
+coefsAfter u = cond (eqb (answerOf u) 0) (tokensOf 1 u) (u .coefs)
 
 -- the promise: the answer, and the list afterwards, which a refusal leaves as it was
 pub record Quantized (u : Input) (answer : Answer) (after : List ℤ) : Type 0 where
   pub answered : number answer ≡ answerOf u
   pub written : after ≡ coefsAfter u
+
+-- ---- the call that takes a rule
+-- 19: the rule is not 1 or 2
+unfoldable pub badRule : ℕ → Bool
+badRule rule = ltb rule 1 || ltb 2 rule
+
+-- 19 comes before all others
+abbrev pub ruleAnswer : ℕ → Input → ℕ
+ruleAnswer rule u = cond (badRule rule) 19 (answerOf u)
+
+-- the list afterwards: as it was under a refusal
+abbrev pub ruledAfter : ℕ → Input → List ℤ
+ruledAfter rule u = cond (eqb (ruleAnswer rule u) 0) (tokensOf rule u) (u .coefs)
+
+-- the promise
+pub record Ruled (rule : ℕ) (u : Input) (answer : Answer) (after : List ℤ) : Type 0 where
+  pub answered : number answer ≡ ruleAnswer rule u
+  pub written : after ≡ ruledAfter rule u

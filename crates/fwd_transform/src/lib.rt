@@ -27,7 +27,7 @@ ghost use Rattle.wht.specs.Wht.{wht};
 ghost use Rattle.quant.specs.Places.{quantizerAt};
 ghost use Rattle.quant.specs.Token.{quantize};
 ghost use Rattle.fwd_transform.specs.ForwardWht.{Forwarded, whtAnswer};
-ghost use Rattle.fwd_transform.specs.Quantize.{Quantized, answerOf, tokensOf};
+ghost use Rattle.fwd_transform.specs.Quantize.{Quantized, Ruled, answerOf, badRule, tokensOf};
 
 // The answer to the whole block, before anything is written.
 fn check_wht(block: &[i64]) -> Answer
@@ -87,6 +87,16 @@ pub fn forward_wht_2d(block: &mut [i64]) -> Answer
     answer
 }
 
+// The rule is not 1 or 2.
+fn bad_rule(rule: u32) -> bool
+    ensures { λ r. ⌜ r ≡ badRule rule ⌝ }
+{
+    if rule < 1 {
+        return true;
+    }
+    2 < rule
+}
+
 // The answer to the whole input, before anything is written.
 fn check(coefs: &[i64], dc: DcQuant, ac: AcQuant, size: u32, depth: u32) -> Answer
     ensures { λ r. ⌜ number r ≡ answerOf (record { coefs = now (coefs .entry); dc = dc; ac = ac; size = size; depth = depth }) ⌝ }
@@ -114,31 +124,53 @@ fn check(coefs: &[i64], dc: DcQuant, ac: AcQuant, size: u32, depth: u32) -> Answ
 }
 
 // The token of the coefficient at place k: DC at place 0, AC at all others.
-fn token_at(k: usize, coef: i64, dc: DcQuant, ac: AcQuant, size: u32, most: u64) -> i64
+fn token_at(k: usize, coef: i64, dc: DcQuant, ac: AcQuant, size: u32, most: u64, rule: u32) -> i64
     requires { ⌜ (badQuantizer (dc .0) ≡ false) × (badQuantizer (ac .0) ≡ false) × (natAbs coef ≤ 2 ^ 31) × (most ≤ codeable 12) ⌝ }
-    ensures { λ r. ⌜ r ≡ quantize size most (quantizerAt dc ac k) coef ⌝ }
+    ensures { λ r. ⌜ r ≡ quantize rule size most (quantizerAt dc ac k) coef ⌝ }
 {
     if k == 0 {
-        return dc.quantize(coef, size, most);
+        return dc.quantize(coef, size, most, rule);
     }
-    ac.quantize(coef, size, most)
+    ac.quantize(coef, size, most, rule)
 }
 
 // Each coefficient becomes its token.
-fn tokens_in_place(coefs: &mut [i64], dc: DcQuant, ac: AcQuant, size: u32, depth: u32)
+fn tokens_in_place(coefs: &mut [i64], dc: DcQuant, ac: AcQuant, size: u32, depth: u32, rule: u32)
     requires { ⌜ (badQuantizer (dc .0) ≡ false) × (badQuantizer (ac .0) ≡ false) × ((k : ℕ) → k < length (now coefs) → natAbs (getD (now coefs) k (pos 0)) ≤ 2 ^ 31) ⌝ }
-    ensures { λ _. ⌜ now (coefs .exit) ≡ tokensOf (record { coefs = now (coefs .entry); dc = dc; ac = ac; size = size; depth = depth }) ⌝ }
+    ensures { λ _. ⌜ now (coefs .exit) ≡ tokensOf rule (record { coefs = now (coefs .entry); dc = dc; ac = ac; size = size; depth = depth }) ⌝ }
 {
     let most = max_codeable_coef(depth) as u64;
     let mut k = 0;
     while k < coefs.len() {
         let coef = coefs[k];
-        coefs[k] = token_at(k, coef, dc, ac, size, most);
+        coefs[k] = token_at(k, coef, dc, ac, size, most, rule);
         k += 1;
     }
 }
 
-// Coefficients to tokens, at any size and depth.
+// Coefficients to tokens by one of the two rules, at any size and depth.
+pub fn quantize_block_rule(
+    coefs: &mut [i64],
+    dc: DcQuant,
+    ac: AcQuant,
+    size: u32,
+    depth: u32,
+    rule: u32,
+) -> Answer
+    ensures { λ r. ⌜ Ruled rule (record { coefs = now (coefs .entry); dc = dc; ac = ac; size = size; depth = depth }) r (now (coefs .exit)) ⌝ }
+{
+    if bad_rule(rule) {
+        return Answer::Rule;
+    }
+    let answer = check(coefs, dc, ac, size, depth);
+    if code(answer) != 0 {
+        return answer;
+    }
+    tokens_in_place(coefs, dc, ac, size, depth, rule);
+    answer
+}
+
+// Coefficients to tokens by rule 1, at any size and depth.
 pub fn quantize_block_tx(
     coefs: &mut [i64],
     dc: DcQuant,
@@ -148,15 +180,10 @@ pub fn quantize_block_tx(
 ) -> Answer
     ensures { λ r. ⌜ Quantized (record { coefs = now (coefs .entry); dc = dc; ac = ac; size = size; depth = depth }) r (now (coefs .exit)) ⌝ }
 {
-    let answer = check(coefs, dc, ac, size, depth);
-    if code(answer) != 0 {
-        return answer;
-    }
-    tokens_in_place(coefs, dc, ac, size, depth);
-    answer
+    quantize_block_rule(coefs, dc, ac, size, depth, 1)
 }
 
-// Coefficients to tokens, at size 0 and depth 8.
+// Coefficients to tokens by rule 1, at size 0 and depth 8.
 pub fn quantize_block(coefs: &mut [i64], dc: DcQuant, ac: AcQuant) -> Answer
     ensures { λ r. ⌜ Quantized (record { coefs = now (coefs .entry); dc = dc; ac = ac; size = 0; depth = 8 }) r (now (coefs .exit)) ⌝ }
 {

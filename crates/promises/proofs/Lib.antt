@@ -2,6 +2,7 @@ pub mod Exactly
 pub mod Tests
 pub mod When
 pub mod Rows
+pub mod Rule
 pub mod Report
 pub mod Engine32
 pub mod Files

@@ -101,6 +101,10 @@ dct-unique u a b s t p q = (same-answer (F.answerOf u) a b (p .answered) (q .ans
 pub quantize-unique : (u : Q.Input) (a b : Answer) (s t : List ℤ) → Q.Quantized u a s → Q.Quantized u b t → (a ≡ b) × (s ≡ t)
 quantize-unique u a b s t p q = (same-answer (Q.answerOf u) a b (p .answered) (q .answered), same (p .written) (q .written))
 
+-- `quantize_block_rule`
+pub rule-unique : (rule : ℕ) (u : Q.Input) (a b : Answer) (s t : List ℤ) → Q.Ruled rule u a s → Q.Ruled rule u b t → (a ≡ b) × (s ≡ t)
+rule-unique rule u a b s t p q = (same-answer (Q.ruleAnswer rule u) a b (p .answered) (q .answered), same (p .written) (q .written))
+
 -- `max_codeable_coef` and its export
 pub codeable-unique : (depth : ℕ) (r t : ℤ) → r ≡ pos (codeable depth) → t ≡ pos (codeable depth) → r ≡ t
 codeable-unique depth r t p q = same p q
@@ -162,7 +166,7 @@ write-unique l out r t o₁ o₂ p q =
     let n = same (p .length-is) (q .length-is) in
     (ap (λ x. record { answer = x; length = r .length }) a ∙ ap (λ x. record { answer = t .answer; length = x }) n, same (p .out-is) (q .out-is))
 
--- `bracetwill_inverse_transform_2d`, its reference, `bracetwill_inverse_transform_2d_rows`, `bracetwill_row_summary`, `bracetwill_replace_token`, `bracetwill_reconstruct_block`, `bracetwill_reconstruct_block_report`, `bracetwill_forward_wht_2d`, `bracetwill_forward_dct_2d`, `bracetwill_quantize_block_tx`, `bracetwill_quantize_block` and `bracetwill_vbk_write`
+-- `bracetwill_inverse_transform_2d`, its reference, `bracetwill_inverse_transform_2d_rows`, `bracetwill_row_summary`, `bracetwill_replace_token`, `bracetwill_reconstruct_block`, `bracetwill_reconstruct_block_report`, `bracetwill_forward_wht_2d`, `bracetwill_forward_dct_2d`, `bracetwill_quantize_block_tx`, `bracetwill_quantize_block`, `bracetwill_quantize_block_rule` and `bracetwill_vbk_write`
 pub told-unique : {Given Lent : Type 0} (answer : Given → ℕ) (after : Given → Lent) (u : Given) (r t : ℕ) (k l : Lent) → Told answer after u r k
     → Told answer after u t l → (r ≡ t) × (k ≡ l)
 told-unique answer after u r t k l p q = (same (p .answered) (q .answered), same (p .written) (q .written))

@@ -24,7 +24,7 @@ use Rattle.fwd_transform.specs.ForwardWht.{whtAnswer, Forwarded}
 use Rattle.promises.specs.Exactly.{Exactly}
 use Rattle.promises.specs.Conditions.{NoQuantizer}
 use Rattle.promises.specs.When as W
-use Rattle.promises.proofs.Exactly.{none, more, here-if, exactly}
+use Rattle.promises.proofs.Exactly.{Each, none, more, here-if, exactly}
 use Rattle.promises.proofs.Tests as T
 
 -- ---- n outside 2 to 5
@@ -179,14 +179,16 @@ pub reconstruct-when : (u : R.Input) (a : Answer) (after : List ℕ) → R.Recon
 reconstruct-when u a after r = subst (λ (n : ℕ). Exactly (W.Reconstruct u) n) (sym (r .answered)) (reconstruct-exactly u)
 
 -- ---- the quantizer
-quantize-has : (u : Q.Input) (n : ℕ) → W.Quantize u n
-    → Applies n
-    ((1, badDepth (u .depth))
+abbrev pub quantize-table : Q.Input → List (ℕ × Bool)
+quantize-table u =
+    (1, badDepth (u .depth))
     ∷ (2, badSize (u .size))
     ∷ (5, badQuantizer (u .dc .0) || badQuantizer (u .ac .0))
     ∷ (6, ltb LIST_LIMIT (length (u .coefs)))
     ∷ (9, anyBeyond COEF_LIMIT (length (u .coefs)) (u .coefs))
-    ∷ [])
+    ∷ []
+
+pub quantize-has : (u : Q.Input) (n : ℕ) → W.Quantize u n → Applies n (quantize-table u)
 quantize-has u n (W.depth h) = here-if 1 _ _ (T.depth-test (u .depth) h)
 quantize-has u n (W.size h) = there (here-if 2 _ _ (lt-ltb 3 (u .size) h))
 quantize-has u n (W.dc h) = there (there (here-if 5 _ _ (T.left (badQuantizer (u .dc .0)) (badQuantizer (u .ac .0)) (T.quantizer-test (u .dc .0) h))))
@@ -194,17 +196,18 @@ quantize-has u n (W.ac h) = there (there (here-if 5 _ _ (T.right (badQuantizer (
 quantize-has u n (W.count h) = there (there (there (here-if 6 _ _ (lt-ltb LIST_LIMIT (length (u .coefs)) h))))
 quantize-has u n (W.coefficient h) = there (there (there (there (here-if 9 _ _ (T.beyond-test COEF_LIMIT (length (u .coefs)) (u .coefs) h)))))
 
-quantize-exactly : (u : Q.Input) → Exactly (W.Quantize u) (Q.answerOf u)
-unfolding Q.answerOf
-quantize-exactly u =
-    exactly (W.Quantize u) _ tt
-    (more (λ e. W.depth (T.no-depth (u .depth) e))
+pub quantize-each : (u : Q.Input) → Each (W.Quantize u) (quantize-table u)
+quantize-each u =
+    more (λ e. W.depth (T.no-depth (u .depth) e))
     (more (λ e. W.size (ltb-true 3 (u .size) e))
     (more
     (T.or-true (badQuantizer (u .dc .0)) (badQuantizer (u .ac .0)) (λ e. W.dc (T.no-quantizer (u .dc .0) e)) (λ e. W.ac (T.no-quantizer (u .ac .0) e)))
     (more (λ e. W.count (ltb-true LIST_LIMIT (length (u .coefs)) e))
-    (more (λ e. W.coefficient (T.some-beyond COEF_LIMIT (length (u .coefs)) (u .coefs) e)) none)))))
-    (quantize-has u)
+    (more (λ e. W.coefficient (T.some-beyond COEF_LIMIT (length (u .coefs)) (u .coefs) e)) none))))
+
+quantize-exactly : (u : Q.Input) → Exactly (W.Quantize u) (Q.answerOf u)
+unfolding Q.answerOf
+quantize-exactly u = exactly (W.Quantize u) (quantize-table u) tt (quantize-each u) (quantize-has u)
 
 -- `quantize_block_tx`; and `quantize_block`, whose size is 0 and depth 8
 pub quantize-when : (u : Q.Input) (a : Answer) (after : List ℤ) → Q.Quantized u a after → Exactly (W.Quantize u) (number a)

@@ -29,9 +29,13 @@ one given said = record { given = given ∷ []; said = said ∷ [] }
 abbrev dcBlock : ℤ → ℤ → Row
 dcBlock x said = record { given = inverse2d 2 0 false (x ∷ replicate 15 (pos 0)); said = replicate 16 said }
 
--- the token of a coefficient at a depth of 8
+-- the token of a coefficient at a depth of 8, by a rule
+abbrev tokenBy : ℕ → ℕ → ℤ → ℤ → ℤ → Row
+tokenBy rule size q coef said = one (quantize rule size (codeable 8) q coef) said
+
+-- by rule 1
 abbrev token : ℕ → ℤ → ℤ → ℤ → Row
-token size q coef said = one (quantize size (codeable 8) q coef) said
+token = tokenBy 1
 
 -- what a summary says: how many rows, the first and the last, −1 for none
 abbrev says : ℕ → ℤ → ℤ → ℤ → Row
@@ -64,6 +68,12 @@ numbers =
     ∷ token 0 (pos 4) (pos 6) (pos 1)
     ∷ token 0 (pos 4) (pos 7) (pos 2)
     ∷ token 3 (pos 3) (pos 2) (pos 1)
+    ∷ tokenBy 2 0 (pos 4) (pos 2) (pos 1)
+    ∷ tokenBy 2 0 (pos 4) (negsuc 1) (negsuc 0)
+    ∷ tokenBy 2 0 (pos 4) (pos 3) (pos 1)
+    ∷ token 3 (pos 4) (pos 1) (pos 0)
+    ∷ tokenBy 2 3 (pos 4) (pos 1) (pos 1)
+    ∷ tokenBy 2 3 (pos 3) (pos 2) (pos 1)
     ∷ one (pos (summaryOf 4 (pos 0 ∷ pos 7 ∷ replicate 7 (pos 0) ++ (negsuc 8 ∷ replicate 6 (pos 0))))) (pos 5)
     ∷ says 5 (pos 2) (pos 0) (pos 2)
     ∷ says 0 (pos 0) (negsuc 0) (negsuc 0)

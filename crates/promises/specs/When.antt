@@ -92,6 +92,15 @@ pub data Quantize (u : Q.Input) : ℕ → Type 0 where
   count : LIST_LIMIT < length (u .coefs) → Quantize u 6
   coefficient : SomeBeyond COEF_LIMIT (length (u .coefs)) (u .coefs) → Quantize u 9
 
+-- the quantizer that takes a rule, step by step: a rule other than 1 and 2, then all that the quantizer refuses
+pub data Rule (rule : ℕ) (u : Q.Input) : ℕ → Type 0 where
+  unknown : (1 ≤ rule → rule ≤ 2 → ⊥) → Rule rule u 1
+  quantizer : {k : ℕ} → Quantize u k → Rule rule u (suc k)
+
+-- the number of each of its steps, 0 for none
+abbrev pub ruleNumbers : List ℕ
+ruleNumbers = 0 ∷ 19 ∷ 1 ∷ 2 ∷ 3 ∷ 4 ∷ 5 ∷ 6 ∷ 7 ∷ 8 ∷ 9 ∷ []
+
 -- the forward WHT
 pub data Forward (block : List ℤ) : ℕ → Type 0 where
   count : (length block ≡ 16 → ⊥) → Forward block 6

@@ -23,6 +23,10 @@ pub record Bracket (q most x t : ℕ) : Type 0 where
 abbrev pub Toward : ℕ → ℕ → ℕ → Type 0
 Toward q x t = t * (2 * q) < 2 * x + q
 
+-- of two that are equally near the greater, where it can be coded: t × q is less than half of q below x
+abbrev pub Away : ℕ → ℕ → ℕ → ℕ → Type 0
+Away q most x t = t < most → 2 * x < t * (2 * q) + q
+
 -- a rounded quotient, cut at the cap, brackets, wherever a half goes: r = 1 takes it toward zero, r = 0 away
 pub bracket : (r q most x : ℕ) → r ≤ 1 → 0 < q → Bracket q most x (min most ((2 * x + (q - r)) / (2 * q)))
 bracket r q most x h p = go (decLt f most)
@@ -48,6 +52,13 @@ toward q most x p =
     let f = (2 * x + (q - 1)) / (2 * q) in
     let k : min most f * (2 * q) ≤ f * (2 * q) = NatL.mul-le-mul-right (2 * q) (omega arith) in
     omega (arith, floor (2 * x + (q - 1)) (2 * q) (omega arith) .low)
+
+-- with r = 0 the greater
+pub away : (q most x : ℕ) → 0 < q → Away q most x (min most ((2 * x + (q - 0)) / (2 * q)))
+away q most x p l =
+    let f = (2 * x + (q - 0)) / (2 * q) in
+    let e : min most f ≡ f = omega arith in
+    rw e (omega (arith, floor (2 * x + (q - 0)) (2 * q) (omega arith) .high))
 
 -- ---- what brackets is nearest
 -- the multiples of an even quantizer are even
@@ -94,3 +105,7 @@ farther true (suc (suc q)) a t s p w v k = omega (arith, NatL.mul-le-mul-right (
 -- which it is, as the formula gives it, where the cap is even
 pub even-choice : (most a : ℕ) → most % 2 ≡ 0 → min most ((2 * (a * 2) + (1 - 1)) / (2 * 1)) % 2 ≡ 0
 even-choice most a h = omega arith
+
+-- where a half goes away from zero, at the small sizes, a greater token is farther
+pub farther-above : (q most a t s : ℕ) → 0 < q → Away q most a t → s ≤ most → t < s → gap a (t * q) < gap a (s * q)
+farther-above q most a t s p w l k = omega (arith, NatL.mul-le-mul-right q k, w (omega arith))

@@ -3,6 +3,7 @@ pub mod Bracket
 pub mod Sign
 pub mod TokenLaw
 pub mod Nearness
+pub mod Rules
 pub mod Worse
 pub mod Halves
 pub mod Machine

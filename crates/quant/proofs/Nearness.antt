@@ -1,4 +1,4 @@
--- The token that the quantizer chooses is the best: codeable, nearest, and of those equally near the smallest. And nothing else is.
+-- The token that the quantizer chooses is codeable and nearest under every rule; under rule 1 it is of those equally near the smallest, and nothing else is.
 use mathlib.Core.Path.{_≡_, refl, sym, ap, _∙_}
 use mathlib.Core.Bool.{Bool, true, false, cond}
 use Prim.Native.Nat.{ℕ, zero, suc, _+_, _-_, _*_, _/_, _%_, _^_, _≤_, _<_}
@@ -13,8 +13,9 @@ use Rattle.whole.proofs.Parts.{apart, abs-parts, sum-parts, neg-P, neg-N}
 use Rattle.answers.specs.Bad.{badQuantizer}
 use Rattle.answers.specs.Limits.{isDepth, codeable}
 use Rattle.answers.proofs.Passed.{quantizer}
-use Rattle.quant.specs.Token.{dqDenom, dequant, rounded, withSign, quantize}
+use Rattle.quant.specs.Token.{dqDenom, dequant, short, rounded, withSign, quantize}
 use Rattle.quant.specs.Choice.{distance, Nearest, Least}
+use Rattle.quant.proofs.Floor.{short-most}
 use Rattle.quant.proofs.Bracket.{gap, Bracket, Toward, bracket, toward, nearer, farther, even-choice}
 use Rattle.quant.proofs.Sign.{abs-with-sign, dequant-sign}
 
@@ -32,10 +33,10 @@ any-side : (z w : ℤ) → gap (natAbs z) (natAbs w) ≤ natAbs (z -ℤ w)
 any-side z w = omega (arith, difference z w, abs-parts z, abs-parts w, apart z, apart w)
 
 -- on two sides as far as their magnitudes together
-across-pos : (a v : ℕ) → natAbs (pos a -ℤ negℤ (pos v)) ≡ a + v
+pub across-pos : (a v : ℕ) → natAbs (pos a -ℤ negℤ (pos v)) ≡ a + v
 across-pos a v = omega (arith, difference (pos a) (negℤ (pos v)), neg-P (pos v), neg-N (pos v))
 
-across-neg : (a v : ℕ) → natAbs (negsuc a -ℤ pos v) ≡ suc a + v
+pub across-neg : (a v : ℕ) → natAbs (negsuc a -ℤ pos v) ≡ suc a + v
 across-neg a v = omega (arith, difference (negsuc a) (pos v))
 
 -- the same of a token's value
@@ -51,11 +52,11 @@ dequant-with size n (negsuc a) zero = dequant-sign size n (pos 0) ∙ rw (dequan
 dequant-with size n (negsuc a) (suc m) = dequant-sign size n (negsuc m)
 
 module _ (size n : ℕ) where
-  distance-own : (coef : ℤ) (m : ℕ) → distance size (pos n) coef (withSign coef m) ≡ gap (natAbs coef) (m * n / dqDenom size)
+  pub distance-own : (coef : ℤ) (m : ℕ) → distance size (pos n) coef (withSign coef m) ≡ gap (natAbs coef) (m * n / dqDenom size)
   unfolding distance
   distance-own coef m = rw (dequant-with size n coef m) (one-side coef (m * n / dqDenom size))
 
-  distance-any : (coef token : ℤ) → gap (natAbs coef) (natAbs token * n / dqDenom size) ≤ distance size (pos n) coef token
+  pub distance-any : (coef token : ℤ) → gap (natAbs coef) (natAbs token * n / dqDenom size) ≤ distance size (pos n) coef token
   unfolding distance
   distance-any coef token = rw (dequant-abs size n token) at (any-side coef (dequant size (pos n) token))
 
@@ -114,16 +115,16 @@ codeable-even depth = go (isDepth depth)
     go true = let e : 6 + depth ≡ suc (5 + depth) = omega arith in rw e (omega (arith, NatL.pow-suc 2 (5 + depth)))
     go false = refl
 
--- THE TOKEN CHOSEN IS NEAREST, whatever the cap and however great the coefficient
-pub quantize-nearest : (size most : ℕ) (q coef : ℤ) → badQuantizer q ≡ false → Nearest size most q coef (quantize size most q coef)
+-- THE TOKEN CHOSEN IS NEAREST, under every rule, whatever the cap and however great the coefficient
+pub quantize-nearest : (rule size most : ℕ) (q coef : ℤ) → badQuantizer q ≡ false → Nearest size most q coef (quantize rule size most q coef)
 unfolding quantize rounded
-quantize-nearest size most q coef h =
+quantize-nearest rule size most q coef h =
     let g = quantizer q h in
     let n = natAbs q in
-    rw (g .is) (bracket-nearest size most n coef _ (bracket 1 n most (natAbs coef * dqDenom size) (omega arith) (g .least)))
+    rw (g .is) (bracket-nearest size most n coef _ (bracket (short rule) n most (natAbs coef * dqDenom size) (short-most rule) (g .least)))
 
--- AND THE LEAST OF THE NEAREST, whatever the cap, but that under quantizer 1 at 32 by 32 it has to be even
-pub quantize-least-cap : (size most : ℕ) (q coef : ℤ) → badQuantizer q ≡ false → (size ≡ 3 → natAbs q ≡ 1 → most % 2 ≡ 0) → Least size most q coef (quantize size most q coef)
+-- AND UNDER RULE 1 THE LEAST OF THE NEAREST, whatever the cap, but that under quantizer 1 at 32 by 32 it has to be even
+pub quantize-least-cap : (size most : ℕ) (q coef : ℤ) → badQuantizer q ≡ false → (size ≡ 3 → natAbs q ≡ 1 → most % 2 ≡ 0) → Least size most q coef (quantize 1 size most q coef)
 unfolding quantize rounded
 quantize-least-cap size most q coef h e =
     let g = quantizer q h in
@@ -133,11 +134,11 @@ quantize-least-cap size most q coef h e =
     (λ f k. rw (f, k) (even-choice most (natAbs coef) (e (eqb-true size 3 f) k))))
 
 -- which all codeable limits are
-pub quantize-least : (size depth : ℕ) (q coef : ℤ) → badQuantizer q ≡ false → Least size (codeable depth) q coef (quantize size (codeable depth) q coef)
+pub quantize-least : (size depth : ℕ) (q coef : ℤ) → badQuantizer q ≡ false → Least size (codeable depth) q coef (quantize 1 size (codeable depth) q coef)
 quantize-least size depth q coef h = quantize-least-cap size (codeable depth) q coef h (λ _ _. codeable-even depth)
 
--- WHATEVER IS THE LEAST OF THE NEAREST IS THE TOKEN CHOSEN: the formula is a consequence
-pub only-least : (size depth : ℕ) (q coef token : ℤ) → badQuantizer q ≡ false → Least size (codeable depth) q coef token → token ≡ quantize size (codeable depth) q coef
+-- WHATEVER IS THE LEAST OF THE NEAREST IS THE TOKEN CHOSEN UNDER RULE 1: the formula is a consequence
+pub only-least : (size depth : ℕ) (q coef token : ℤ) → badQuantizer q ≡ false → Least size (codeable depth) q coef token → token ≡ quantize 1 size (codeable depth) q coef
 only-least size depth q coef token h x =
     let e = sym (quantizer q h .is) in
     least-one size (codeable depth) (natAbs q) coef token _ (rw e x) (rw e (quantize-least size depth q coef h))

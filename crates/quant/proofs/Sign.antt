@@ -28,14 +28,14 @@ dequant-sign size n (negsuc a) =
     eq-parts (quotZ z (pos d)) (negℤ (pos v))
     (rw (quot-P z d, quot-N z d, neg-P (pos v), neg-N (pos v), neg-P (pos (suc a * n)), neg-N (pos (suc a * n)), NatL.zero-div d))
 
-rounded-zero : (q : ℕ) → 0 < q → rounded q 0 ≡ 0
-rounded-zero q p = rounded-is q 0 0 (record { low = omega arith; high = omega arith })
+rounded-zero : (rule q : ℕ) → 0 < q → rounded rule q 0 ≡ 0
+rounded-zero rule q p = rounded-is rule q 0 0 (record { low = omega arith; high = omega arith })
 
-pub quantize-sign : (size cap : ℕ) (q t : ℤ) (m : ℕ) → 0 < natAbs q
-    → quantize size cap q (withSign t m) ≡ withSign t (min cap (rounded (natAbs q) (m * dqDenom size)))
+pub quantize-sign : (rule size cap : ℕ) (q t : ℤ) (m : ℕ) → 0 < natAbs q
+    → quantize rule size cap q (withSign t m) ≡ withSign t (min cap (rounded rule (natAbs q) (m * dqDenom size)))
 unfolding quantize
-quantize-sign size cap q (pos a) m p = refl
-quantize-sign size cap q (negsuc a) zero p =
-    let e : min cap (rounded (natAbs q) (0 * dqDenom size)) ≡ 0 = omega (arith, ap (rounded (natAbs q)) (NatL.zero-mul (dqDenom size)), rounded-zero (natAbs q) p) in
+quantize-sign rule size cap q (pos a) m p = refl
+quantize-sign rule size cap q (negsuc a) zero p =
+    let e : min cap (rounded rule (natAbs q) (0 * dqDenom size)) ≡ 0 = omega (arith, ap (rounded rule (natAbs q)) (NatL.zero-mul (dqDenom size)), rounded-zero rule (natAbs q) p) in
     rw e
-quantize-sign size cap q (negsuc a) (suc m) p = refl
+quantize-sign rule size cap q (negsuc a) (suc m) p = refl

@@ -7,7 +7,7 @@ ghost use lib.IntN.{pos, natAbs};
 ghost use lib.Signed.{quotZ};
 ghost use Rattle.answers.specs.Bad.{badQuantizer};
 ghost use Rattle.answers.specs.Limits.{codeable};
-ghost use Rattle.quant.specs.Token.{dqDenom, dequant, withSign, quantize};
+ghost use Rattle.quant.specs.Token.{dqDenom, dequant, short, withSign, quantize};
 
 // The quantizer of place 0.
 pub struct DcQuant(pub i32);
@@ -47,6 +47,16 @@ fn widened(coef: i64, size: u32) -> u64
         return a * 2;
     }
     a
+}
+
+// What a rule takes off before the division: an exact half falls short by 1 under rule 1, and does not under rule 2.
+fn short(rule: u32) -> u64
+    ensures { λ r. ⌜ (r ≡ short rule) × (r ≤ 1) ⌝ }
+{
+    if rule == 2 {
+        return 0;
+    }
+    1
 }
 
 // The smaller of the two.
@@ -92,15 +102,15 @@ impl DcQuant {
         divided(token * (dc as i64), size)
     }
 
-    // The token of a coefficient, at most `most` in magnitude.
-    pub fn quantize(self, coef: i64, size: u32, most: u64) -> i64
+    // The token of a coefficient under a rule, at most `most` in magnitude.
+    pub fn quantize(self, coef: i64, size: u32, most: u64, rule: u32) -> i64
         requires { ⌜ (badQuantizer (self .0) ≡ false) × (natAbs coef ≤ 2 ^ 31) × (most ≤ codeable 12) ⌝ }
-        ensures { λ r. ⌜ r ≡ quantize size most (self .0) coef ⌝ }
+        ensures { λ r. ⌜ r ≡ quantize rule size most (self .0) coef ⌝ }
     {
         let signed = self.0;
         let dc = signed as u64;
         let a = widened(coef, size);
-        with_sign(coef, least(most, (2 * a + (dc - 1)) / (2 * dc)))
+        with_sign(coef, least(most, (2 * a + (dc - short(rule))) / (2 * dc)))
     }
 }
 
@@ -125,14 +135,14 @@ impl AcQuant {
         divided(token * (ac as i64), size)
     }
 
-    // The token of a coefficient, at most `most` in magnitude.
-    pub fn quantize(self, coef: i64, size: u32, most: u64) -> i64
+    // The token of a coefficient under a rule, at most `most` in magnitude.
+    pub fn quantize(self, coef: i64, size: u32, most: u64, rule: u32) -> i64
         requires { ⌜ (badQuantizer (self .0) ≡ false) × (natAbs coef ≤ 2 ^ 31) × (most ≤ codeable 12) ⌝ }
-        ensures { λ r. ⌜ r ≡ quantize size most (self .0) coef ⌝ }
+        ensures { λ r. ⌜ r ≡ quantize rule size most (self .0) coef ⌝ }
     {
         let signed = self.0;
         let ac = signed as u64;
         let a = widened(coef, size);
-        with_sign(coef, least(most, (2 * a + (ac - 1)) / (2 * ac)))
+        with_sign(coef, least(most, (2 * a + (ac - short(rule))) / (2 * ac)))
     }
 }

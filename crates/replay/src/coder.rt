@@ -1,4 +1,4 @@
-// Kinds 23 to 26 and 36: forward WHT and quantizers.
+// Kinds 23 to 26, 36 and 39: forward WHT and quantizers.
 use crate::verdict::Verdict;
 use crate::verdict::answered;
 use crate::verdict::outside;
@@ -59,6 +59,26 @@ pub fn quantize_block(line: &[u8], at: usize, numbers: &mut [i64]) -> Verdict {
     answered(line, l.next, answer, ac.next, &numbers[0..count])
 }
 
+// Kind 39: the two quantizers, size, depth, rule and the coefficients.
+pub fn quantize_block_rule(line: &[u8], at: usize, numbers: &mut [i64]) -> Verdict {
+    let dc = lines::read_signed32(line, at);
+    let ac = lines::read_signed32(line, dc.next);
+    let size = lines::read_unsigned32(line, ac.next);
+    let depth = lines::read_unsigned32(line, size.next);
+    let rule = lines::read_unsigned32(line, depth.next);
+    let l = lines::read_list(line, rule.next, numbers);
+    let count = l.count;
+    let answer = fwd_transform::quantize_block_rule(
+        &mut numbers[0..count],
+        DcQuant(dc.value),
+        AcQuant(ac.value),
+        size.value,
+        depth.value,
+        rule.value,
+    );
+    answered(line, l.next, answer, rule.next, &numbers[0..count])
+}
+
 // Kind 26: the depth.
 pub fn max_codeable_coef(line: &[u8], at: usize) -> Verdict {
     let depth = lines::read_unsigned32(line, at);
@@ -89,7 +109,7 @@ pub fn quantize(line: &[u8], at: usize) -> Verdict {
     let most = lines::read_unsigned(line, size.next);
     let ac = AcQuant(q.value);
     if quantizable(coef.value, ac, most.value) {
-        let token = ac.quantize(coef.value, size.value, most.value);
+        let token = ac.quantize(coef.value, size.value, most.value, 1);
         return reached(line, lines::same(line, most.next, token));
     }
     outside(most.next)

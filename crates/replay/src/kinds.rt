@@ -45,6 +45,7 @@ pub fn verdict(kind: usize, line: &[u8], at: usize, numbers: &mut [i64]) -> Verd
             replay_engine32::inverse_transform_2d_32(line, at, numbers),
         ),
         38 => reached(line, replay_dct::forward_dct_2d(line, at, numbers)),
+        39 => coder::quantize_block_rule(line, at, numbers),
         _ => Verdict::Skipped,
     }
 }

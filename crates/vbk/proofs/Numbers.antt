@@ -3,7 +3,7 @@ use Prim.Native.Nat.{_≤_}
 use native.Mathlib.Omega.{arith}
 use Rattle.answers.specs.Answers.{number}
 use Rattle.answers.specs.declared.Answer.{Answer}
-use Rattle.answers.specs.declared.Answer.the-variants.{Done, Depth, Size, LosslessSize, TxType, Quantizer, Length, Plane, Token, Coefficient, Mark, Version, CutShort, TooLarge, LosslessByte, Report, Place, Room, Narrow}
+use Rattle.answers.specs.declared.Answer.the-variants.{Done, Depth, Size, LosslessSize, TxType, Quantizer, Length, Plane, Token, Coefficient, Mark, Version, CutShort, TooLarge, LosslessByte, Report, Place, Room, Narrow, Rule}
 
 pub number-most : (a : Answer) → number a ≤ 99
 number-most Done = omega arith
@@ -25,3 +25,4 @@ number-most Report = omega arith
 number-most Place = omega arith
 number-most Room = omega arith
 number-most Narrow = omega arith
+number-most Rule = omega arith

@@ -18,12 +18,12 @@ use Rattle.fwd_transform.proofs.tokens_in_place.Tie as tie
 
 -- after k turns
 abbrev Inv-loop : tie.InvT-loop
-Inv-loop coefs₀ dc ac size depth most k₀ coefs k =
+Inv-loop coefs₀ dc ac size depth rule most k₀ coefs k =
     (k ≤ length coefs₀) × (length coefs ≡ length coefs₀)
-    × (coefs ≡ fill k (tokenAt (record { coefs = coefs₀; dc = dc; ac = ac; size = size; depth = depth })) coefs₀)
+    × (coefs ≡ fill k (tokenAt rule (record { coefs = coefs₀; dc = dc; ac = ac; size = size; depth = depth })) coefs₀)
 
 abbrev μ-loop : tie.MeasureT-loop
-μ-loop coefs₀ dc ac size depth most k₀ coefs k = length coefs₀ - k
+μ-loop coefs₀ dc ac size depth rule most k₀ coefs k = length coefs₀ - k
 
 abbrev input : tie.Start Inv-loop μ-loop → Input
 input s = record { coefs = s .args .coefs .now; dc = s .args .dc; ac = s .args .ac; size = s .args .size; depth = s .args .depth }
@@ -43,7 +43,7 @@ module _ (c : tie.After-coef Inv-loop μ-loop) where
   met : rd w64 (getD (c .before .before .loop .coefs) (c .before .before .loop .k) (pos 0)) ≡ getD (c .before .before .before .before .args .coefs .now) (c .before .before .loop .k) (pos 0)
   met =
       toZ-ofZ w64 (getD (c .before .before .loop .coefs) (c .before .before .loop .k) (pos 0)) (record { sfits = c .coef .given })
-      ∙ turn (input (c .before .before .before .before)) (c .before .before .loop .k) (c .before .before .loop .coefs) (c .before .before .loop .inv .2)
+      ∙ turn (input (c .before .before .before .before)) (c .before .before .before .before .args .rule) (c .before .before .loop .k) (c .before .before .loop .coefs) (c .before .before .loop .inv .2)
 
 token-at-requires : tie.Need-token-at-requires Inv-loop μ-loop
 token-at-requires c κs =
@@ -70,7 +70,7 @@ returns : tie.Need-returns Inv-loop μ-loop
 returns c =
     let s = c .before .before .before in
     let l = c .before .loop in
-    filled (input s) (l .k) (l .coefs) (omega arith) (omega arith) (l .inv .2)
+    filled (input s) (s .args .rule) (l .k) (l .coefs) (omega arith) (omega arith) (l .inv .2)
 
 pub tokens-in-place-spec : {M : Type 1} → statement M
 tokens-in-place-spec =

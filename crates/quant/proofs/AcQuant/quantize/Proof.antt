@@ -1,5 +1,5 @@
 use mathlib.Core.Path.{_≡_, ap, _∙_}
-use Prim.Native.Nat.{_-_, _*_, _^_, _≤_}
+use Prim.Native.Nat.{_*_, _^_, _≤_}
 use native.Mathlib.Omega.{arith}
 use borrow.Author.Needs.{needs}
 use lib.IntN.{natAbs}
@@ -34,23 +34,31 @@ mul-least : tie.Need-mul-least
 mul-least c = record { fits = omega (arith, wide-le c) }
 
 sub-least : tie.Need-sub-least
-sub-least c = rw (q c) (quantizer (c .before .before .args .self .0) (c .before .before .pre .0) .least)
+sub-least c =
+    let s = c .before .before .before in
+    rw (q (c .before)) (omega (arith, c .short .ensures .1, quantizer (s .args .self .0) (s .pre .0) .least))
 
 add-least : tie.Need-add-least
-add-least c = rw (q c) (record { fits = omega (arith, wide-le c, quantizer (c .before .before .args .self .0) (c .before .before .pre .0) .most) })
+add-least c =
+    let s = c .before .before .before in
+    rw (q (c .before)) (record { fits = omega (arith, wide-le (c .before), quantizer (s .args .self .0) (s .pre .0) .most) })
 
 mul-least-2 : tie.Need-mul-least-2
-mul-least-2 c = rw (q c) (record { fits = omega (arith, quantizer (c .before .before .args .self .0) (c .before .before .pre .0) .most) })
+mul-least-2 c =
+    let s = c .before .before .before in
+    rw (q (c .before)) (record { fits = omega (arith, quantizer (s .args .self .0) (s .pre .0) .most) })
 
 div-least : tie.Need-div-least
-div-least c = rw (q c) (omega (arith, quantizer (c .before .before .args .self .0) (c .before .before .pre .0) .least))
+div-least c =
+    let s = c .before .before .before in
+    rw (q (c .before)) (omega (arith, quantizer (s .args .self .0) (s .pre .0) .least))
 
 returns : tie.Need-returns
 unfolding quantize rounded
 returns c =
-    let d = c .before .before in
+    let d = c .before .before .before in
     rd-ok w64 {z = c .with-sign .result} (c .with-sign .ok) ∙ c .with-sign .ensures
-    ∙ rw (coef d, c .before .least .ensures, q d, wide d)
+    ∙ rw (coef d, c .before .least .ensures, c .before .before .short .ensures .0, q d, wide d)
 
 pub quantize-spec : {M : Type 1} → statement M
 quantize-spec =
@@ -59,6 +67,7 @@ quantize-spec =
     cast-ac
     (λ c κs. search needs)
     mul-least
+    (λ c κs. search needs)
     sub-least
     add-least
     mul-least-2
