@@ -26,9 +26,9 @@
 
 /* made by bindings/write from VERSION */
 #define BRACETWILL_VERSION_MAJOR 0
-#define BRACETWILL_VERSION_MINOR 2
+#define BRACETWILL_VERSION_MINOR 3
 #define BRACETWILL_VERSION_PATCH 0
-#define BRACETWILL_VERSION_STRING "0.2.0"
+#define BRACETWILL_VERSION_STRING "0.3.0"
 /* end */
 
 /* An answer that is not looked at is a warning: a refused call has written nothing. */
@@ -70,7 +70,8 @@ enum bracetwill_answer {
   BRACETWILL_ANSWER_PLACE = 16,
   BRACETWILL_ANSWER_ROOM = 17,
   BRACETWILL_ANSWER_NARROW = 18,
-  BRACETWILL_ANSWER_RULE = 19
+  BRACETWILL_ANSWER_RULE = 19,
+  BRACETWILL_ANSWER_RETIRED = 20
 };
 
 /* An answer in words, the same that every other part of the product says; never NULL. */
@@ -96,6 +97,7 @@ static inline const char *bracetwill_answer_meaning(uint32_t answer) {
   case BRACETWILL_ANSWER_ROOM: return "the buffer is too short for the file";
   case BRACETWILL_ANSWER_NARROW: return "a number of the recursive process leaves 16 bits (the 32-bit engine alone)";
   case BRACETWILL_ANSWER_RULE: return "the quantizer's rule is not 1 or 2 (the call with a rule alone)";
+  case BRACETWILL_ANSWER_RETIRED: return "depth 12 is read but no longer written (the quantizers and the VBK writer)";
   default: return "no answer has this number";
   }
 }
@@ -209,7 +211,7 @@ BRACETWILL_NODISCARD
 uint32_t bracetwill_forward_dct_2d(int64_t *block, size_t block_len, uint32_t n);
 
 /* Coefficients become tokens, in place: 0 to 1024 of them, dc_quant for the first and ac_quant for all others. An exact half goes toward
- * zero. Answers 0, 1, 2, 5, 6, 9. */
+ * zero. Answers 0, 1, 20 (depth 12, which is for reading only), 2, 5, 6, 9. */
 BRACETWILL_NODISCARD
 uint32_t bracetwill_quantize_block_tx(int64_t *coefs, size_t coefs_len, int32_t dc_quant, int32_t ac_quant, uint32_t tx_sz,
                                       uint32_t bit_depth);
@@ -219,12 +221,13 @@ BRACETWILL_NODISCARD
 uint32_t bracetwill_quantize_block(int64_t *coefs, size_t coefs_len, int32_t dc_quant, int32_t ac_quant);
 
 /* bracetwill_quantize_block_tx by a rule: 1 sends an exact half toward zero, as the two calls above do, and 2 away from it, as the
- * recorder's firmware 2 does. Answers 19 (another rule), before all others; then 0, 1, 2, 5, 6, 9. */
+ * recorder's firmware 2 does. Answers 19 (another rule), before all others; then 0, 1, 20 (depth 12), 2, 5, 6, 9. */
 BRACETWILL_NODISCARD
 uint32_t bracetwill_quantize_block_rule(int64_t *coefs, size_t coefs_len, int32_t dc_quant, int32_t ac_quant, uint32_t tx_sz,
                                         uint32_t bit_depth, uint32_t rule);
 
-/* The codeable limit of a depth, the greatest magnitude of a token; 0 for a depth that is not 8, 10 or 12. */
+/* The codeable limit of a depth, the greatest magnitude of a token; 0 for a depth that is not 8, 10 or 12. That of depth 12, which is for
+ * reading only, is 262210 as before. */
 BRACETWILL_NODISCARD
 int64_t bracetwill_max_codeable_coef(uint32_t bit_depth);
 
@@ -265,9 +268,10 @@ size_t bracetwill_blockrun(const uint8_t *file, size_t file_len, uint16_t *sampl
  *
  * Done, the file's length is written to length[0], and the bytes of out past it stay. What reconstruction would refuse is written all the
  * same: any place, type, quantizer and token. A file takes 10 + 2 * samples_len + 11 * xs_len + 4 * tokens_len bytes; a room of
- * BRACETWILL_FILE_LIMIT bytes holds any. Answers 0, 1 (depth), 2 (a size above 3), 6 (samples_len is not width times height, a record's
- * count is not that of its size, lists of records of different lengths, or counts that do not add up to tokens_len), 13 (width times
- * height not 1 to 4096, or a file above BRACETWILL_FILE_LIMIT bytes), 14 (a lossless byte above 1), 17 (out is too short). */
+ * BRACETWILL_FILE_LIMIT bytes holds any. Answers 0, 1 (depth), 20 (depth 12, which is for reading only), 2 (a size above 3), 6 (samples_len is
+ * not width times height, a record's count is not that of its size, lists of records of different lengths, or counts that do not add up
+ * to tokens_len), 13 (width times height not 1 to 4096, or a file above BRACETWILL_FILE_LIMIT bytes), 14 (a lossless byte above 1), 17
+ * (out is too short). */
 BRACETWILL_NODISCARD
 uint32_t bracetwill_vbk_write(uint8_t depth, uint16_t width, uint16_t height, const uint16_t *samples, size_t samples_len,
                               const uint16_t *xs, size_t xs_len, const uint16_t *ys, size_t ys_len, const uint8_t *sizes,

@@ -681,7 +681,7 @@ static void quantize_refused(size_t len, int32_t dc, int32_t ac, uint32_t size, 
   equal(bracetwill_quantize_block_tx(list, len, dc, ac, size, depth), want, what);
   check(same(list, before, sizeof list), what, -1, 0);
   /* the short call has no size and no depth to refuse */
-  if (size > 3 || (depth != 8 && depth != 10 && depth != 12)) return;
+  if (size > 3 || (depth != 8 && depth != 10)) return;
   equal(bracetwill_quantize_block(list, len, dc, ac), want, what);
   check(same(list, before, sizeof list), what, -2, 0);
 }
@@ -710,11 +710,13 @@ static void rules(void) {
     rule_refused(BRACETWILL_LIST_LIMIT + 1, 0, 0, 8, rule, beyond, BRACETWILL_ANSWER_QUANTIZER, "by a rule: DC 0");
     rule_refused(BRACETWILL_LIST_LIMIT + 1, 0, 4, 8, rule, beyond, BRACETWILL_ANSWER_SIZE, "by a rule: size");
     rule_refused(BRACETWILL_LIST_LIMIT + 1, 0, 4, 9, rule, beyond, BRACETWILL_ANSWER_DEPTH, "by a rule: depth");
+    rule_refused(BRACETWILL_LIST_LIMIT + 1, 0, 4, 12, rule, beyond, BRACETWILL_ANSWER_RETIRED, "by a rule: depth 12");
   }
   const uint32_t no_rules[] = {0, 3, 257, UINT32_MAX};
   for (size_t k = 0; k < 4; k++) {
     rule_refused(16, 1, 0, 8, no_rules[k], 0, BRACETWILL_ANSWER_RULE, "no rule");
     rule_refused(BRACETWILL_LIST_LIMIT + 1, 0, 4, 9, no_rules[k], beyond, BRACETWILL_ANSWER_RULE, "no rule: before all others");
+    rule_refused(16, 1, 0, 12, no_rules[k], 0, BRACETWILL_ANSWER_RULE, "no rule: before depth 12");
   }
 }
 
@@ -732,8 +734,8 @@ static void quantizers(void) {
   equal(bracetwill_quantize_block_tx(list, 2, 3, 5, 0, 10), BRACETWILL_ANSWER_DONE, "DC and AC");
   equal(list[0], 3, "DC: a token");
   equal(list[1], 2, "AC: a token");
-  const uint32_t depths[] = {8, 10, 12};
-  for (size_t d = 0; d < 3; d++) {
+  const uint32_t depths[] = {8, 10};
+  for (size_t d = 0; d < 2; d++) {
     list[0] = BRACETWILL_COEF_LIMIT;
     list[1] = -BRACETWILL_COEF_LIMIT;
     equal(bracetwill_quantize_block_tx(list, 2, 1, 1, 0, depths[d]), BRACETWILL_ANSWER_DONE, "quantizer: the limit");
@@ -741,16 +743,19 @@ static void quantizers(void) {
     equal(list[1], -bracetwill_max_codeable_coef(depths[d]), "quantizer: the cap below zero");
   }
   equal(bracetwill_quantize_block(NULL, 0, 1, 1), BRACETWILL_ANSWER_DONE, "quantizer: no list");
-  equal(bracetwill_quantize_block_tx(NULL, 0, 1, 1, 3, 12), BRACETWILL_ANSWER_DONE, "quantizer: no list, any size");
+  equal(bracetwill_quantize_block_tx(NULL, 0, 1, 1, 3, 10), BRACETWILL_ANSWER_DONE, "quantizer: no list, any size");
   quantize_refused(16, 1, 1, 0, 8, beyond, BRACETWILL_ANSWER_COEFFICIENT, "quantizer: beyond");
-  quantize_refused(BRACETWILL_LIST_LIMIT, 1, 1, 3, 12, -beyond, BRACETWILL_ANSWER_COEFFICIENT, "quantizer: last beyond");
-  quantize_refused(BRACETWILL_LIST_LIMIT, 1, 1, 3, 12, INT64_MIN, BRACETWILL_ANSWER_COEFFICIENT, "quantizer: the least number");
+  quantize_refused(BRACETWILL_LIST_LIMIT, 1, 1, 3, 10, -beyond, BRACETWILL_ANSWER_COEFFICIENT, "quantizer: last beyond");
+  quantize_refused(BRACETWILL_LIST_LIMIT, 1, 1, 3, 10, INT64_MIN, BRACETWILL_ANSWER_COEFFICIENT, "quantizer: the least number");
   quantize_refused(BRACETWILL_LIST_LIMIT + 1, 1, 1, 0, 8, beyond, BRACETWILL_ANSWER_LENGTH, "quantizer: length");
   quantize_refused(BRACETWILL_LIST_LIMIT + 1, 0, 1, 0, 8, beyond, BRACETWILL_ANSWER_QUANTIZER, "quantizer: DC 0");
   quantize_refused(BRACETWILL_LIST_LIMIT + 1, 1, 32768, 0, 8, beyond, BRACETWILL_ANSWER_QUANTIZER, "quantizer: AC 32768");
   quantize_refused(0, INT32_MIN, INT32_MAX, 0, 8, 0, BRACETWILL_ANSWER_QUANTIZER, "quantizer: of no list");
   quantize_refused(BRACETWILL_LIST_LIMIT + 1, 0, 0, 4, 8, beyond, BRACETWILL_ANSWER_SIZE, "quantizer: size");
   quantize_refused(BRACETWILL_LIST_LIMIT + 1, 0, 0, 4, 9, beyond, BRACETWILL_ANSWER_DEPTH, "quantizer: depth");
+  quantize_refused(BRACETWILL_LIST_LIMIT + 1, 0, 0, 4, 11, beyond, BRACETWILL_ANSWER_DEPTH, "quantizer: depth 11");
+  quantize_refused(BRACETWILL_LIST_LIMIT + 1, 0, 0, 4, 12, beyond, BRACETWILL_ANSWER_RETIRED, "quantizer: depth 12 before all but 19");
+  quantize_refused(16, 1, 1, 0, 12, 0, BRACETWILL_ANSWER_RETIRED, "quantizer: depth 12 alone");
   equal(bracetwill_max_codeable_coef(8), 16450, "codeable limit at 8");
   equal(bracetwill_max_codeable_coef(10), 65602, "codeable limit at 10");
   equal(bracetwill_max_codeable_coef(12), 262210, "codeable limit at 12");
@@ -1029,6 +1034,12 @@ static void clip_refuses(void) {
   struct writing c = clip();
   c.depth = 9;
   clip_refused(c, BRACETWILL_ANSWER_DEPTH, "writing: depth");
+  c.depth = 12;
+  clip_refused(c, BRACETWILL_ANSWER_RETIRED, "writing: depth 12");
+  clip_sizes[1] = 4;
+  clip_refused(c, BRACETWILL_ANSWER_RETIRED, "writing: depth 12 before size");
+  c.depth = 11;
+  clip_refused(c, BRACETWILL_ANSWER_DEPTH, "writing: depth 11");
   c = clip();
   clip_sizes[1] = 4;
   clip_refused(c, BRACETWILL_ANSWER_SIZE, "writing: size");

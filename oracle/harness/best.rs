@@ -75,6 +75,14 @@ pub fn every(seed: u64, count: u64, out: &mut dyn FnMut(&Call, &Outcome)) {
         let (dc, ac) = (cases::quantizer(&mut r), cases::quantizer(&mut r));
         let at = |place: usize| i64::from(if place == 0 { dc } else { ac });
         let coefs: Vec<i64> = (0..16).map(|p| coefficient(&mut r, size, most, at(p))).collect();
+        // depth 12 is no longer written: its limit goes to the quantizer of one number
+        if rules::retired(depth) {
+            for (p, coef) in coefs.iter().enumerate() {
+                let c = call(size, most, at(p), *coef);
+                out(&c, &Outcome { nums: vec![answer(&c).into()], lists: vec![] });
+            }
+            continue;
+        }
         let tokens = coefs.iter().enumerate().map(|(p, coef)| token(size, most, at(p), *coef)).collect();
         let args = vec![dc.into(), ac.into(), size.into(), depth.into()];
         out(&Call { kind: 24, args, lists: vec![coefs] }, &Outcome { nums: vec![0], lists: vec![tokens] });

@@ -16,6 +16,8 @@ const FORWARD: i64 = rules::FORWARD_LIMIT as i64;
 const RESIDUAL: i64 = rules::RESIDUAL_LIMIT as i64;
 
 pub const DEPTHS: [u32; 3] = [8, 10, 12];
+/// Those that the quantizers and the writer take.
+const WRITTEN_DEPTHS: [u32; 2] = [8, 10];
 const BAD_RULES: [u32; 6] = [0, 3, 4, 8, 257, u32::MAX];
 const BAD_DEPTHS: [u32; 12] = [0, 1, 7, 9, 11, 13, 14, 16, 32, 57, 64, u32::MAX];
 const BAD_SIZES: [u32; 6] = [4, 5, 8, 30, 255, u32::MAX];
@@ -788,7 +790,7 @@ fn any_token(r: &mut Rng) -> i64 {
 fn good_writing(r: &mut Rng, least: u64) -> Writing {
     loop {
         let (w, h) = if r.once_in(60) { r.pick(&[(4_096, 1), (1, 4_096), (64, 64)]) } else { (r.range(1, 9), r.range(1, 9)) };
-        let mut c = Writing::new(r.pick(&DEPTHS).into(), w, h);
+        let mut c = Writing::new(r.pick(&WRITTEN_DEPTHS).into(), w, h);
         if w * h < 100 {
             c.lists[SAMPLES].iter_mut().for_each(|s| *s = r.range(0, 65_535));
         }
@@ -811,10 +813,10 @@ fn writing(r: &mut Rng) -> Call {
     c.call(more)
 }
 
-/// A file as the writer makes it: what is written has to run.
+/// A file as the writer makes it, of depth 12 too, which it no longer does: what is written, or was, has to run.
 pub fn written_file(r: &mut Rng) -> Vec<u8> {
-    let c = good_writing(r, 0);
-    vbk::write(c.depth as u32, c.width as u16, c.height as u16, &c.lists[..OUT], rules::FILE_MAX).expect("a file that is taken")
+    let (c, depth) = (good_writing(r, 0), r.pick(&DEPTHS));
+    vbk::bytes(depth, c.width as u16, c.height as u16, &c.lists[..OUT])
 }
 
 fn refused_writing(r: &mut Rng, wanted: &[u8]) -> Call {
@@ -837,6 +839,9 @@ fn refused_writing(r: &mut Rng, wanted: &[u8]) -> Call {
         }
     }
     let k = r.below(records) as usize;
+    if has(20) {
+        c.depth = 12;
+    }
     if has(1) {
         c.depth = r.pick(&[0, 7, 9, 11, 13, 255]);
     }
@@ -907,7 +912,7 @@ fn systematic_writing(out: &mut dyn FnMut(Call)) {
         out(c.call(0));
     }
     for (w, h) in [(0, 0), (1, 0), (4_096, 1), (4_097, 1), (64, 64), (65, 64), (1, 1)] {
-        out(Writing::new(12, w, h).call(0));
+        out(Writing::new(10, w, h).call(0));
     }
     // 15 blocks of 32 by 32 and a plane that makes 65,535 bytes and 65,537: taken by the limit (the room refuses), and past it
     for samples in [1_960, 1_961] {
@@ -1297,7 +1302,7 @@ fn quantize(r: &mut Rng, kind: u32) -> Call {
     let mut args = vec![dc.into(), ac.into()];
     if kind != 25 {
         args.push(r.below(4).into());
-        args.push(r.pick(&DEPTHS).into());
+        args.push(if r.once_in(16) { 12 } else { r.pick(&WRITTEN_DEPTHS) }.into());
     }
     if kind == 39 {
         args.push(r.range(1, 2).into());
@@ -1337,7 +1342,7 @@ fn refused_quantize(r: &mut Rng, kind: u32, wanted: &[u8]) -> Call {
     let mut args: Vec<i128> = vec![dc.into(), ac.into()];
     if kind != 25 {
         args.push(if has(2) { r.pick(&BAD_SIZES).into() } else { r.below(4).into() });
-        args.push(if has(1) { r.pick(&BAD_DEPTHS).into() } else { r.pick(&DEPTHS).into() });
+        args.push(if has(1) { r.pick(&BAD_DEPTHS) } else if has(20) { 12 } else { r.pick(&WRITTEN_DEPTHS) }.into());
     }
     if kind == 39 {
         args.push(if has(19) { r.pick(&BAD_RULES).into() } else { r.range(1, 2).into() });
@@ -1377,19 +1382,19 @@ pub const REFUSALS: [(u32, &[u8]); 14] = [
     (21, &[2, 3, 4, 6, 9]),
     (22, &[1, 2, 3, 4, 5, 6, 7, 8, 9]),
     (23, &[6, 9]),
-    (24, &[1, 2, 5, 6, 9]),
+    (24, &[1, 20, 2, 5, 6, 9]),
     (25, &[5, 6, 9]),
     (31, &[1, 2, 3, 4, 5, 6, 7, 8, 9, 15]),
     (32, &[2, 6]),
     (33, &[1, 2, 5, 6, 16, 8, 9]),
     (34, &[2, 3, 4, 6, 9]),
-    (35, &[1, 2, 6, 13, 14, 17]),
+    (35, &[1, 20, 2, 6, 13, 14, 17]),
     (37, &[2, 3, 4, 6, 9, 18]),
     (38, &[2, 6, 9]),
-    (39, &[19, 1, 2, 5, 6, 9]),
+    (39, &[19, 1, 20, 2, 5, 6, 9]),
 ];
 
-/// A call to which each of these numbers applies (3 and 4 never do together).
+/// A call to which each of these numbers applies (3 and 4, 1 and 20 never do together).
 pub fn refused(r: &mut Rng, kind: u32, wanted: &[u8]) -> Call {
     match kind {
         20 | 21 | 34 => refused_driver(r, kind, wanted),
@@ -1907,7 +1912,7 @@ pub fn worked(out: &mut dyn FnMut(Call)) {
         }
     }
     for v in [COEF, -COEF, COEF + 1, -COEF - 1] {
-        out(call(24, vec![32_767, 32_767, 0, 12], vec![vec![v]]));
+        out(call(24, vec![32_767, 32_767, 0, 10], vec![vec![v]]));
         out(call(25, vec![32_767, 32_767], vec![vec![v]]));
     }
     for x in [4, 6] {

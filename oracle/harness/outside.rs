@@ -135,6 +135,7 @@ fn main() {
         "size 4, 4096 tokens, plane 64 by 17",
         Recon { size: 4, width: 64, height: 17, tokens: block(4_096, &[(0, 400)]), ..good() },
     );
+    quantize("depth 12, coefficient 1048840 at 4", vec![1_048_840], 4, 4, 0, 12);
     quantize("size 4, coefficient 7 at 4", vec![7], 4, 4, 4, 8);
 
     both_drivers("lossless, n 3, place 0 holds 4", block(64, &[(0, 4)]), 3, 0, true);
@@ -176,7 +177,7 @@ fn main() {
     forward("place 0 holds 2^23 + 1", block(16, &[(0, (1 << 23) + 1)]));
     forward("every place holds 2^62", vec![1 << 62; 16]);
     for v in [(1i64 << 31) + 1, i64::MAX, i64::MIN] {
-        quantize(&format!("coefficient {v} at 32767"), vec![v], 32_767, 1, 0, 12);
+        quantize(&format!("coefficient {v} at 32767"), vec![v], 32_767, 1, 0, 10);
     }
 
     for angle in [i32::MIN, i32::MIN + 31, i32::MIN + 32] {

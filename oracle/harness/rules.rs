@@ -24,6 +24,11 @@ pub fn good_depth(depth: u32) -> bool {
     depth == 8 || depth == 10 || depth == 12
 }
 
+/// Read, and no longer written: answer 20 of the writer and the quantizers, in the place of 1.
+pub fn retired(depth: u32) -> bool {
+    depth == 12
+}
+
 fn good_quant(q: i32) -> bool {
     (1..=QUANT_MAX).contains(&q)
 }
@@ -245,6 +250,9 @@ pub fn forward_dct(n: u32, block: &[i64]) -> u8 {
 pub fn quantize_block_tx(dc: i32, ac: i32, size: u32, depth: u32, coefs: &[i64]) -> u8 {
     if !good_depth(depth) {
         return 1;
+    }
+    if retired(depth) {
+        return 20;
     }
     if size > 3 {
         return 2;

@@ -131,6 +131,9 @@ pub fn write(depth: u32, width: u16, height: u16, lists: &[Vec<i64>], room: usiz
     if !rules::good_depth(depth) {
         return Err(1);
     }
+    if rules::retired(depth) {
+        return Err(20);
+    }
     if sizes.iter().any(|s| *s > 3) {
         return Err(2);
     }
@@ -150,6 +153,14 @@ pub fn write(depth: u32, width: u16, height: u16, lists: &[Vec<i64>], room: usiz
     if room < length {
         return Err(17);
     }
+    let file = bytes(depth, width, height, lists);
+    assert_eq!(file.len(), length);
+    Ok(file)
+}
+
+/// The bytes of a file, of any depth: those of depth 12 are read and no longer written.
+pub fn bytes(depth: u32, width: u16, height: u16, lists: &[Vec<i64>]) -> Vec<u8> {
+    let [samples, xs, ys, sizes, types, lossless, dcs, acs, counts, tokens] = lists else { panic!("ten lists") };
     let mut file = b"VBK\x01\x00".to_vec();
     let two = |file: &mut Vec<u8>, v: i64| file.extend((v as u16).to_le_bytes());
     file.push(depth as u8);
@@ -169,8 +180,7 @@ pub fn write(depth: u32, width: u16, height: u16, lists: &[Vec<i64>], room: usiz
             file.extend((*t as i32).to_le_bytes());
         }
     }
-    assert_eq!(file.len(), length);
-    Ok(file)
+    file
 }
 
 /// What the program `blockrun` prints for it.

@@ -854,7 +854,7 @@ pub mod fwd_transform {
     }
 
     /// Coefficients become tokens, in place; at most 1,024. `dc_quant` is for the first, `ac_quant` for all others; an exact half goes toward
-    /// zero. Refused with 1, 2, 5, 6 or 9.
+    /// zero. Refused with 1, 20 (depth 12, which is for reading only), 2, 5, 6 or 9.
     ///
     /// ```
     /// use bracetwill::{Refusal, fwd_transform::try_quantize_block_tx};
@@ -863,6 +863,7 @@ pub mod fwd_transform {
     /// assert_eq!(try_quantize_block_tx(&mut coefs, 8, 4, 0, 8), Ok(()));
     /// assert_eq!(coefs, [12, -2, 3, 0]);
     /// assert_eq!(try_quantize_block_tx(&mut coefs, 0, 4, 0, 8), Err(Refusal::Quantizer));
+    /// assert_eq!(try_quantize_block_tx(&mut coefs, 8, 4, 0, 12), Err(Refusal::Retired));
     /// ```
     pub fn try_quantize_block_tx(coefs: &mut [i64], dc_quant: i32, ac_quant: i32, tx_sz: u32, bit_depth: u32) -> Result<(), Refusal> {
         // SAFETY: as above.
@@ -882,7 +883,7 @@ pub mod fwd_transform {
     }
 
     /// [`try_quantize_block_tx`] by a rule: 1 sends an exact half toward zero, as that call does, and 2 away from it, as the recorder's
-    /// firmware 2 does. Refused with 19 (another rule) before all others; then with 1, 2, 5, 6 or 9.
+    /// firmware 2 does. Refused with 19 (another rule) before all others; then with 1, 20 (depth 12), 2, 5, 6 or 9.
     ///
     /// ```
     /// use bracetwill::{Refusal, fwd_transform::try_quantize_block_rule};
@@ -1086,8 +1087,8 @@ pub mod vbk {
             self.tokens.extend(record.tokens);
         }
 
-        /// The file at the front of `out`; its length is handed back, and what lies past it stays. Refused with 1, 2, 6, 13, 14 or 17, and
-        /// then `out` is as it was.
+        /// The file at the front of `out`; its length is handed back, and what lies past it stays. Refused with 1, 20 (depth 12, which is for
+        /// reading only), 2, 6, 13, 14 or 17, and then `out` is as it was.
         ///
         /// ```
         /// use bracetwill::{Refusal, vbk::Clip};
@@ -1097,6 +1098,7 @@ pub mod vbk {
         /// assert_eq!(clip.try_write(&mut out), Ok(12));
         /// assert_eq!(out[10..], [7, 0, 9, 9]);
         /// assert_eq!(clip.try_write(&mut out[..11]), Err(Refusal::Room));
+        /// assert_eq!(Clip::new(12, 1, 1, vec![7]).try_write(&mut out), Err(Refusal::Retired));
         /// ```
         pub fn try_write(&self, out: &mut [u8]) -> Result<usize, Refusal> {
             let mut length = [0];

@@ -43,10 +43,12 @@ pub enum Refusal {
     Narrow = 18,
     /// Answer 19: the quantizer's rule is not 1 or 2 (the call with a rule alone).
     Rule = 19,
+    /// Answer 20: depth 12 is read but no longer written (the quantizers and the VBK writer).
+    Retired = 20,
 }
 
 /// Every refusal with its meaning, in the order of the numbers.
-pub(crate) const REFUSALS: [(Refusal, &str); 19] = [
+pub(crate) const REFUSALS: [(Refusal, &str); 20] = [
     (Refusal::Depth, "bit depth is not 8, 10 or 12"),
     (Refusal::Size, "size number above 3 (for the 2D drivers and the forward DCT: n outside 2 to 5)"),
     (Refusal::LosslessSize, "lossless with a size other than 4 by 4"),
@@ -66,4 +68,5 @@ pub(crate) const REFUSALS: [(Refusal, &str); 19] = [
     (Refusal::Room, "the buffer is too short for the file"),
     (Refusal::Narrow, "a number of the recursive process leaves 16 bits (the 32-bit engine alone)"),
     (Refusal::Rule, "the quantizer's rule is not 1 or 2 (the call with a rule alone)"),
+    (Refusal::Retired, "depth 12 is read but no longer written (the quantizers and the VBK writer)"),
 ];

@@ -8,13 +8,13 @@ use lib.Dec.{T, ltb, ltb→lt}
 use lib.ListN.{getD}
 use Rattle.whole.proofs.Tests.{both, b₁, b₂}
 use Rattle.answers.specs.declared.Answer.{Answer}
-use Rattle.answers.specs.declared.Answer.the-variants.{Done, Depth, Size, LosslessSize, TxType, Quantizer, Length, Plane, Token, Coefficient, Mark, Version, CutShort, TooLarge, LosslessByte, Report, Place, Room, Narrow, Rule}
+use Rattle.answers.specs.declared.Answer.the-variants.{Done, Depth, Size, LosslessSize, TxType, Quantizer, Length, Plane, Token, Coefficient, Mark, Version, CutShort, TooLarge, LosslessByte, Report, Place, Room, Narrow, Rule, Retired}
 use Rattle.answers.specs.Answers.{number, lowest}
 
 -- the answer of a number; Done stands in the gaps
 abbrev pub numbered : ℕ → Answer
 numbered n =
-    getD (Done ∷ Depth ∷ Size ∷ LosslessSize ∷ TxType ∷ Quantizer ∷ Length ∷ Plane ∷ Token ∷ Coefficient ∷ Mark ∷ Version ∷ CutShort ∷ TooLarge ∷ LosslessByte ∷ Report ∷ Place ∷ Room ∷ Narrow ∷ Rule ∷ []) n Done
+    getD (Done ∷ Depth ∷ Size ∷ LosslessSize ∷ TxType ∷ Quantizer ∷ Length ∷ Plane ∷ Token ∷ Coefficient ∷ Mark ∷ Version ∷ CutShort ∷ TooLarge ∷ LosslessByte ∷ Report ∷ Place ∷ Room ∷ Narrow ∷ Rule ∷ Retired ∷ []) n Done
 
 pub numbered-number : (a : Answer) → numbered (number a) ≡ a
 numbered-number Done = refl
@@ -37,6 +37,7 @@ numbered-number Place = refl
 numbered-number Room = refl
 numbered-number Narrow = refl
 numbered-number Rule = refl
+numbered-number Retired = refl
 
 pub number-injective : (a b : Answer) → number a ≡ number b → a ≡ b
 number-injective a b e = sym (numbered-number a) ∙ ap numbered e ∙ numbered-number b

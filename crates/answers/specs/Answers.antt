@@ -3,7 +3,7 @@ use mathlib.Core.Bool.{Bool, cond}
 use mathlib.Core.List.{List, [], _∷_}
 use Prim.Native.Nat.{ℕ}
 use Rattle.answers.specs.declared.Answer.{Answer}
-use Rattle.answers.specs.declared.Answer.the-variants.{Done, Depth, Size, LosslessSize, TxType, Quantizer, Length, Plane, Token, Coefficient, Mark, Version, CutShort, TooLarge, LosslessByte, Report, Place, Room, Narrow, Rule}
+use Rattle.answers.specs.declared.Answer.the-variants.{Done, Depth, Size, LosslessSize, TxType, Quantizer, Length, Plane, Token, Coefficient, Mark, Version, CutShort, TooLarge, LosslessByte, Report, Place, Room, Narrow, Rule, Retired}
 
 -- the number of an answer
 abbrev pub number : Answer → ℕ
@@ -27,6 +27,7 @@ number Place = 16
 number Room = 17
 number Narrow = 18
 number Rule = 19
+number Retired = 20
 
 -- of numbers with their tests: the first number whose test holds, and 0 where none does
 abbrev pub lowest : List (ℕ × Bool) → ℕ

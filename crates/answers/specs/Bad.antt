@@ -14,6 +14,10 @@ use Rattle.answers.specs.Sizes.{area}
 unfoldable pub badDepth : ℕ → Bool
 badDepth depth = not (isDepth depth)
 
+-- 20: depth 12, which is read and no longer written
+abbrev pub retired : ℕ → Bool
+retired depth = eqb depth 12
+
 -- 2: the size number is above 3
 abbrev pub badSize : ℕ → Bool
 badSize size = ltb 3 size

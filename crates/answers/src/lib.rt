@@ -3,10 +3,10 @@ ghost use Prim.Native.Nat.{_≤_};
 ghost use lib.IntN.{natAbs};
 ghost use lib.ListN.{length};
 ghost use Rattle.answers.specs.Answers.{number};
-ghost use Rattle.answers.specs.Bad.{badDepth, badSize, badSide, badLossless, badTxType, anyBeyond};
+ghost use Rattle.answers.specs.Bad.{badDepth, retired, badSize, badSide, badLossless, badTxType, anyBeyond};
 ghost use Rattle.answers.specs.Sizes.{side, area};
 
-// The answers of all calls and of the VBK reader, in the order of their numbers, 0 to 19.
+// The answers of all calls and of the VBK reader, in the order of their numbers, 0 to 20.
 pub enum Answer {
     Done,
     Depth,
@@ -28,6 +28,7 @@ pub enum Answer {
     Room,
     Narrow,
     Rule,
+    Retired,
 }
 
 // Magnitude of dequantized values, of the 2D driver's input and of the quantizer's.
@@ -76,6 +77,7 @@ pub fn code(a: Answer) -> u32
         Answer::Room => 17,
         Answer::Narrow => 18,
         Answer::Rule => 19,
+        Answer::Retired => 20,
     }
 }
 
@@ -126,6 +128,13 @@ pub fn bad_depth(depth: u32) -> bool
         12 => false,
         _ => true,
     }
+}
+
+// The depth is 12, which is read and no longer written.
+pub fn retired(depth: u32) -> bool
+    ensures { λ r. ⌜ r ≡ retired depth ⌝ }
+{
+    depth == 12
 }
 
 // The size number is above 3.

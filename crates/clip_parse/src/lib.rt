@@ -20,6 +20,7 @@ use clip_told::NO_ROW;
 use clip_told::NOT_A_NUMBER;
 use clip_told::NOTHING;
 use clip_told::RECORD_ROW;
+use clip_told::RETIRED;
 use clip_told::RUN_COUNT;
 use clip_told::SAMPLE_COUNT;
 use clip_told::SAMPLE_ROW;
@@ -449,6 +450,9 @@ fn check_header(s: State, more: bool) -> State
     }
     if answers::bad_depth(words::byte32(s.depth)) {
         return fail(s, DEPTH);
+    }
+    if answers::retired(words::byte32(s.depth)) {
+        return fail(s, RETIRED);
     }
     let n = vbk_read::plane_area(s.width, s.height);
     if n == 0 {

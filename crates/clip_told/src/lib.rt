@@ -55,6 +55,8 @@ pub const NO_HEADER: u8 = 18;
 
 pub const REFUSED: u8 = 19;
 
+pub const RETIRED: u8 = 20;
+
 // What was read of a text, and what is wrong with it.
 pub struct State {
     // the line and the row that is read; what is wrong there, and the field, its column and its limit
@@ -287,14 +289,14 @@ fn say_few(out: &mut [u8], at: usize, s: State) -> usize
     )
 }
 
-// `depth 9 is not 8, 10 or 12`
+// `depth 9 is not 8 or 10`
 fn say_depth(out: &mut [u8], at: usize, s: State) -> usize
     requires { ⌜ at ≤ length (now out) ⌝ }
     ensures { λ r. ⌜ Said (now (out .entry)) r (now (out .exit)) ⌝ }
 {
     let a = clip_rows::say(out, at, b"depth ");
     let b = clip_rows::say_number(out, a, words::byte64(s.depth));
-    clip_rows::say(out, b, b" is not 8, 10 or 12")
+    clip_rows::say(out, b, b" is not 8 or 10")
 }
 
 // `a second VBK row, the first is line 1`
@@ -366,6 +368,11 @@ fn say_wrong(out: &mut [u8], at: usize, text: &[u8], s: State) -> usize
             b"more than 3 numbers, VBK has 3: depth, width, height",
         ),
         DEPTH => say_depth(out, at, s),
+        RETIRED => clip_rows::say(
+            out,
+            at,
+            b"depth 12 is read but no longer written, take 8 or 10",
+        ),
         AREA => say_area(out, at, s),
         SAMPLE_COUNT => say_samples(out, at, s),
         SAMPLES_LATE => clip_rows::say(

@@ -9,7 +9,7 @@ use lib.IntN.{ℤ, pos, natAbs}
 use lib.ListN.{length, getD}
 use Rattle.whole.proofs.Lists.{length-tabulate, getD-tabulate, tabulate-same}
 use Rattle.answers.specs.Answers.{number}
-use Rattle.answers.specs.Bad.{badDepth, badQuantizer, anyBeyond}
+use Rattle.answers.specs.Bad.{badDepth, retired, badQuantizer, anyBeyond}
 use Rattle.answers.specs.Limits.{COEF_LIMIT, LIST_LIMIT, codeable}
 use Rattle.answers.specs.declared.Answer.{Answer}
 use Rattle.answers.proofs.Passed.{all-within}
@@ -47,27 +47,27 @@ module _ (size depth : ℕ) (dc : DcQuant) (ac : AcQuant) (tokens : List ℤ) (h
   within : anyBeyond COEF_LIMIT (length (dequantAll size dc ac tokens)) (dequantAll size dc ac tokens) ≡ false
   within = all-within COEF_LIMIT _ (dequantAll size dc ac tokens) (λ k l. let m : k < length tokens = omega (arith, length-all) in rw (at-place k m) (h .coefs-ok k m))
 
-  -- the call takes them
-  pub taken : answerOf (requantized size depth dc ac tokens) ≡ 0
+  -- the call takes them, at depths 8 and 10
+  pub taken : retired depth ≡ false → answerOf (requantized size depth dc ac tokens) ≡ 0
   unfolding answerOf
-  taken =
-      rw (h .depth-ok, le-ltb 3 size (h .size-ok), h .dc-ok, h .ac-ok, length-all, le-ltb LIST_LIMIT (length tokens) (h .length-ok), rw length-all at within)
+  taken w =
+      rw (h .depth-ok, w, le-ltb 3 size (h .size-ok), h .dc-ok, h .ac-ok, length-all, le-ltb LIST_LIMIT (length tokens) (h .length-ok), rw length-all at within)
 
-  -- THE TOKEN LAW, for lists, under every rule
+  -- THE TOKEN LAW, for lists, under every rule and at every depth
   pub list-law : (rule : ℕ) → tokensOf rule (requantized size depth dc ac tokens) ≡ givenBackAll size dc ac tokens
   unfolding tokensOf tokenAt givenBackAll
   list-law rule =
       rw length-all (tabulate-same _ _ (length tokens) (λ k l. ap (quantize rule size (codeable depth) (quantizerAt dc ac k)) (at-place k l)
       ∙ token-law rule size depth (quantizerAt dc ac k) (getD tokens k (pos 0)) (place-ok dc ac k (h .dc-ok) (h .ac-ok)) (h .tokens-ok k l)))
 
-  -- whatever meets the promise
-  pub rule-law : (rule : ℕ) (a : Answer) (after : List ℤ) → badRule rule ≡ false → Ruled rule (requantized size depth dc ac tokens) a after
+  -- whatever meets the promise, at the depths that are written
+  pub rule-law : retired depth ≡ false → (rule : ℕ) (a : Answer) (after : List ℤ) → badRule rule ≡ false → Ruled rule (requantized size depth dc ac tokens) a after
       → (number a ≡ 0) × (after ≡ givenBackAll size dc ac tokens)
-  rule-law rule a after r p =
+  rule-law w rule a after r p =
       let u = requantized size depth dc ac tokens in
-      let e = known u rule r ∙ taken in
+      let e = known u rule r ∙ taken w in
       (p .answered ∙ e, p .written ∙ sym (done u rule e) ∙ list-law rule)
 
-  pub call-law : (a : Answer) (after : List ℤ) → Quantized (requantized size depth dc ac tokens) a after → (number a ≡ 0) × (after ≡ givenBackAll size dc ac tokens)
+  pub call-law : retired depth ≡ false → (a : Answer) (after : List ℤ) → Quantized (requantized size depth dc ac tokens) a after → (number a ≡ 0) × (after ≡ givenBackAll size dc ac tokens)
   unfolding badRule
-  call-law a after p = rule-law 1 a after refl (record { answered = p .answered; written = p .written })
+  call-law w a after p = rule-law w 1 a after refl (record { answered = p .answered; written = p .written })

@@ -10,7 +10,7 @@ use lib.IntN.{ℤ, pos, natAbs}
 use lib.ListN.{length, getD}
 use Rattle.whole.specs.Lists.{fill}
 use Rattle.whole.proofs.Lists.{fill-rest, fill-all, fill-done}
-use Rattle.answers.specs.Bad.{badDepth, badSize, badQuantizer, anyBeyond}
+use Rattle.answers.specs.Bad.{badDepth, retired, badSize, badQuantizer, anyBeyond}
 use Rattle.answers.specs.Limits.{COEF_LIMIT, LIST_LIMIT}
 use Rattle.answers.specs.declared.Answer.{Answer}
 use Rattle.answers.proofs.Numbers.{pass, rest}
@@ -58,6 +58,7 @@ module _ (i : Input) where
   -- what answer 0 says of the input
   pub record Fine : Type 0 where
     pub depth-ok : badDepth (i .depth) ≡ false
+    pub kept : retired (i .depth) ≡ false
     pub size-ok : i .size ≤ 3
     pub dc-ok : badQuantizer (i .dc .0) ≡ false
     pub ac-ok : badQuantizer (i .ac .0) ≡ false
@@ -69,13 +70,15 @@ module _ (i : Input) where
   fine h =
       let n = length (i .coefs) in
       let h2 = rest (badDepth (i .depth)) 0 _ h in
-      let h5 = rest (badSize (i .size)) 1 _ h2 in
+      let hr = rest (retired (i .depth)) 19 _ h2 in
+      let h5 = rest (badSize (i .size)) 1 _ hr in
       let h6 = rest (badQuantizer (i .dc .0) || badQuantizer (i .ac .0)) 4 _ h5 in
       let h9 = rest (ltb LIST_LIMIT n) 5 _ h6 in
       let q = neither (badQuantizer (i .dc .0)) (badQuantizer (i .ac .0)) (pass (badQuantizer (i .dc .0) || badQuantizer (i .ac .0)) 4 _ h5) in
       record {
         depth-ok = pass (badDepth (i .depth)) 0 _ h;
-        size-ok = ltb-false 3 (i .size) (pass (badSize (i .size)) 1 _ h2);
+        kept = pass (retired (i .depth)) 19 _ h2;
+        size-ok = ltb-false 3 (i .size) (pass (badSize (i .size)) 1 _ hr);
         dc-ok = q .0;
         ac-ok = q .1;
         length-ok = ltb-false LIST_LIMIT n (pass (ltb LIST_LIMIT n) 5 _ h6);

@@ -8,7 +8,7 @@ use lib.IntN.{ℤ, pos}
 use lib.ListN.{length, getD}
 use Rattle.whole.specs.Lists.{tabulate}
 use Rattle.answers.specs.Answers.{number, lowest}
-use Rattle.answers.specs.Bad.{badDepth, badSize, badQuantizer, anyBeyond}
+use Rattle.answers.specs.Bad.{badDepth, retired, badSize, badQuantizer, anyBeyond}
 use Rattle.answers.specs.Limits.{COEF_LIMIT, LIST_LIMIT, codeable}
 use Rattle.answers.specs.declared.Answer.{Answer}
 use Rattle.quant.specs.Places.{quantizerAt}
@@ -24,11 +24,12 @@ pub record Input : Type 0 where
   pub size : ℕ
   pub depth : ℕ
 
--- its table of answers
+-- its table of answers; 20 stands in the place of 1
 unfoldable pub answerOf : Input → ℕ
 answerOf u =
     lowest
     ((1, badDepth (u .depth))
+    ∷ (20, retired (u .depth))
     ∷ (2, badSize (u .size))
     ∷ (5, badQuantizer (u .dc .0) || badQuantizer (u .ac .0))
     ∷ (6, ltb LIST_LIMIT (length (u .coefs)))

@@ -6,6 +6,7 @@ use answers::any_beyond;
 use answers::bad_depth;
 use answers::bad_size;
 use answers::code;
+use answers::retired;
 use blocks::load;
 use blocks::store;
 use quant::AcQuant;
@@ -104,6 +105,9 @@ fn check(coefs: &[i64], dc: DcQuant, ac: AcQuant, size: u32, depth: u32) -> Answ
     if bad_depth(depth) {
         return Answer::Depth;
     }
+    if retired(depth) {
+        return Answer::Retired;
+    }
     if bad_size(size) {
         return Answer::Size;
     }
@@ -148,7 +152,7 @@ fn tokens_in_place(coefs: &mut [i64], dc: DcQuant, ac: AcQuant, size: u32, depth
     }
 }
 
-// Coefficients to tokens by one of the two rules, at any size and depth.
+// Coefficients to tokens by one of the two rules, at any size, at depths 8 and 10.
 pub fn quantize_block_rule(
     coefs: &mut [i64],
     dc: DcQuant,
@@ -170,7 +174,7 @@ pub fn quantize_block_rule(
     answer
 }
 
-// Coefficients to tokens by rule 1, at any size and depth.
+// Coefficients to tokens by rule 1, at any size, at depths 8 and 10.
 pub fn quantize_block_tx(
     coefs: &mut [i64],
     dc: DcQuant,

@@ -179,7 +179,7 @@ fn answer_driver(coef: i64) -> u32 {
     answers::code(idct::inverse_transform_2d(&mut block, 2, 0, false))
 }
 
-// The answer of the quantizer to the same at depth 12, under quantizers of 32,767.
+// The answer of the quantizer to the same at depth 10, under quantizers of 32,767.
 fn answer_quantizer(coef: i64) -> u32 {
     let mut coefs = [0i64; 16];
     coefs[0] = coef;
@@ -188,7 +188,7 @@ fn answer_quantizer(coef: i64) -> u32 {
         quant::DcQuant(32767),
         quant::AcQuant(32767),
         0,
-        12,
+        10,
     ))
 }
 

@@ -16,7 +16,7 @@ use Rattle.promises.specs.Exactly.{InOrder}
 use Rattle.promises.specs.When as W
 use Rattle.promises.proofs.Exactly.{Each, more, here-if, in-order, renumber, later, each-later}
 use Rattle.promises.proofs.Tests as T
-use Rattle.promises.proofs.When.{quantize-table, quantize-has, quantize-each}
+use Rattle.promises.proofs.When.{quantize-steps, quantize-has, quantize-each}
 
 no-rule : (rule : ℕ) → Q.badRule rule ≡ true → 1 ≤ rule → rule ≤ 2 → ⊥
 unfolding Q.badRule
@@ -34,14 +34,14 @@ rule-test rule h = go (decLt rule 1) (decLt 2 rule)
 
 module _ (rule : ℕ) (u : Q.Input) where
   abbrev steps : List (ℕ × Bool)
-  steps = (1, Q.badRule rule) ∷ renumber suc (quantize-table u)
+  steps = (1, Q.badRule rule) ∷ renumber suc (quantize-steps u)
 
   rule-each : Each (W.Rule rule u) steps
-  rule-each = more (λ e. W.Rule.unknown (no-rule rule e)) (each-later (W.Quantize u) (W.Rule rule u) (quantize-table u) (λ n w. W.Rule.quantizer w) (quantize-each u))
+  rule-each = more (λ e. W.Rule.unknown (no-rule rule e)) (each-later (W.Quantize u) (W.Rule rule u) (quantize-steps u) (λ n w. W.Rule.quantizer w) (quantize-each u))
 
   rule-has : (n : ℕ) → W.Rule rule u n → Applies n steps
   rule-has n (W.Rule.unknown h) = here-if 1 _ _ (rule-test rule h)
-  rule-has n (W.Rule.quantizer {k} w) = there (later k (quantize-table u) (quantize-has u k w))
+  rule-has n (W.Rule.quantizer {k} w) = there (later k (quantize-steps u) (quantize-has u k w))
 
   rule-order : InOrder (W.Rule rule u) W.ruleNumbers (Q.ruleAnswer rule u)
   unfolding Q.answerOf

@@ -3,14 +3,14 @@ use mathlib.Core.Path.{_≡_, refl, sym, subst}
 use mathlib.Core.Bool.{Bool, true, false, not, _||_}
 use mathlib.Core.List.{List, [], _∷_}
 use Prim.Native.Nat.{ℕ, _+_, _-_, _≤_, _<_}
-use borrow.Author.Tests.{ltb-true, ltb-false, lt-ltb, le-ltb}
+use borrow.Author.Tests.{ltb-true, ltb-false, lt-ltb, le-ltb, eqb-true, eq-eqb}
 use lib.Dec.{ltb, eqb}
 use lib.IntN.{ℤ}
 use lib.ListN.{length}
 use Rattle.answers.specs.declared.Answer.{Answer}
 use Rattle.answers.specs.Answers.{number}
 use Rattle.answers.specs.Limits.{COEF_LIMIT, WHT_LIMIT, SIDE_LIMIT, LIST_LIMIT, codeable}
-use Rattle.answers.specs.Bad.{badDepth, badSize, badSide, badRoom, badLossless, badTxType, badQuantizer, anyBeyond}
+use Rattle.answers.specs.Bad.{badDepth, retired, badSize, badSide, badRoom, badLossless, badTxType, badQuantizer, anyBeyond}
 use Rattle.answers.proofs.Numbers.{Applies, there}
 use Rattle.plane.specs.Place.{areaOf}
 use Rattle.quant.specs.Places.{dequantAll}
@@ -21,10 +21,10 @@ use Rattle.fwd_dct.specs.Forward as F
 use Rattle.fwd_dct.specs.Forward.{RESIDUAL_LIMIT}
 use Rattle.fwd_transform.specs.Quantize as Q
 use Rattle.fwd_transform.specs.ForwardWht.{whtAnswer, Forwarded}
-use Rattle.promises.specs.Exactly.{Exactly}
+use Rattle.promises.specs.Exactly.{Exactly, InOrder}
 use Rattle.promises.specs.Conditions.{NoQuantizer}
 use Rattle.promises.specs.When as W
-use Rattle.promises.proofs.Exactly.{Each, none, more, here-if, exactly}
+use Rattle.promises.proofs.Exactly.{Each, none, more, here-if, exactly, in-order}
 use Rattle.promises.proofs.Tests as T
 
 -- ---- n outside 2 to 5
@@ -179,39 +179,42 @@ pub reconstruct-when : (u : R.Input) (a : Answer) (after : List ℕ) → R.Recon
 reconstruct-when u a after r = subst (λ (n : ℕ). Exactly (W.Reconstruct u) n) (sym (r .answered)) (reconstruct-exactly u)
 
 -- ---- the quantizer
-abbrev pub quantize-table : Q.Input → List (ℕ × Bool)
-quantize-table u =
+abbrev pub quantize-steps : Q.Input → List (ℕ × Bool)
+quantize-steps u =
     (1, badDepth (u .depth))
-    ∷ (2, badSize (u .size))
-    ∷ (5, badQuantizer (u .dc .0) || badQuantizer (u .ac .0))
-    ∷ (6, ltb LIST_LIMIT (length (u .coefs)))
-    ∷ (9, anyBeyond COEF_LIMIT (length (u .coefs)) (u .coefs))
+    ∷ (2, retired (u .depth))
+    ∷ (3, badSize (u .size))
+    ∷ (4, badQuantizer (u .dc .0) || badQuantizer (u .ac .0))
+    ∷ (5, ltb LIST_LIMIT (length (u .coefs)))
+    ∷ (6, anyBeyond COEF_LIMIT (length (u .coefs)) (u .coefs))
     ∷ []
 
-pub quantize-has : (u : Q.Input) (n : ℕ) → W.Quantize u n → Applies n (quantize-table u)
-quantize-has u n (W.depth h) = here-if 1 _ _ (T.depth-test (u .depth) h)
-quantize-has u n (W.size h) = there (here-if 2 _ _ (lt-ltb 3 (u .size) h))
-quantize-has u n (W.dc h) = there (there (here-if 5 _ _ (T.left (badQuantizer (u .dc .0)) (badQuantizer (u .ac .0)) (T.quantizer-test (u .dc .0) h))))
-quantize-has u n (W.ac h) = there (there (here-if 5 _ _ (T.right (badQuantizer (u .dc .0)) (badQuantizer (u .ac .0)) (T.quantizer-test (u .ac .0) h))))
-quantize-has u n (W.count h) = there (there (there (here-if 6 _ _ (lt-ltb LIST_LIMIT (length (u .coefs)) h))))
-quantize-has u n (W.coefficient h) = there (there (there (there (here-if 9 _ _ (T.beyond-test COEF_LIMIT (length (u .coefs)) (u .coefs) h)))))
+pub quantize-has : (u : Q.Input) (n : ℕ) → W.Quantize u n → Applies n (quantize-steps u)
+quantize-has u n (W.Quantize.depth h) = here-if 1 _ _ (T.depth-test (u .depth) h)
+quantize-has u n (W.Quantize.retired h) = there (here-if 2 _ _ (eq-eqb (u .depth) 12 h))
+quantize-has u n (W.Quantize.size h) = there (there (here-if 3 _ _ (lt-ltb 3 (u .size) h)))
+quantize-has u n (W.Quantize.dc h) = there (there (there (here-if 4 _ _ (T.left (badQuantizer (u .dc .0)) (badQuantizer (u .ac .0)) (T.quantizer-test (u .dc .0) h)))))
+quantize-has u n (W.Quantize.ac h) = there (there (there (here-if 4 _ _ (T.right (badQuantizer (u .dc .0)) (badQuantizer (u .ac .0)) (T.quantizer-test (u .ac .0) h)))))
+quantize-has u n (W.Quantize.count h) = there (there (there (there (here-if 5 _ _ (lt-ltb LIST_LIMIT (length (u .coefs)) h)))))
+quantize-has u n (W.Quantize.coefficient h) = there (there (there (there (there (here-if 6 _ _ (T.beyond-test COEF_LIMIT (length (u .coefs)) (u .coefs) h))))))
 
-pub quantize-each : (u : Q.Input) → Each (W.Quantize u) (quantize-table u)
+pub quantize-each : (u : Q.Input) → Each (W.Quantize u) (quantize-steps u)
 quantize-each u =
-    more (λ e. W.depth (T.no-depth (u .depth) e))
-    (more (λ e. W.size (ltb-true 3 (u .size) e))
+    more (λ e. W.Quantize.depth (T.no-depth (u .depth) e))
+    (more (λ e. W.Quantize.retired (eqb-true (u .depth) 12 e))
+    (more (λ e. W.Quantize.size (ltb-true 3 (u .size) e))
     (more
-    (T.or-true (badQuantizer (u .dc .0)) (badQuantizer (u .ac .0)) (λ e. W.dc (T.no-quantizer (u .dc .0) e)) (λ e. W.ac (T.no-quantizer (u .ac .0) e)))
-    (more (λ e. W.count (ltb-true LIST_LIMIT (length (u .coefs)) e))
-    (more (λ e. W.coefficient (T.some-beyond COEF_LIMIT (length (u .coefs)) (u .coefs) e)) none))))
+    (T.or-true (badQuantizer (u .dc .0)) (badQuantizer (u .ac .0)) (λ e. W.Quantize.dc (T.no-quantizer (u .dc .0) e)) (λ e. W.Quantize.ac (T.no-quantizer (u .ac .0) e)))
+    (more (λ e. W.Quantize.count (ltb-true LIST_LIMIT (length (u .coefs)) e))
+    (more (λ e. W.Quantize.coefficient (T.some-beyond COEF_LIMIT (length (u .coefs)) (u .coefs) e)) none)))))
 
-quantize-exactly : (u : Q.Input) → Exactly (W.Quantize u) (Q.answerOf u)
+quantize-order : (u : Q.Input) → InOrder (W.Quantize u) W.quantizeNumbers (Q.answerOf u)
 unfolding Q.answerOf
-quantize-exactly u = exactly (W.Quantize u) (quantize-table u) tt (quantize-each u) (quantize-has u)
+quantize-order u = in-order (W.Quantize u) W.quantizeNumbers (quantize-steps u) refl tt (quantize-each u) (quantize-has u)
 
 -- `quantize_block_tx`; and `quantize_block`, whose size is 0 and depth 8
-pub quantize-when : (u : Q.Input) (a : Answer) (after : List ℤ) → Q.Quantized u a after → Exactly (W.Quantize u) (number a)
-quantize-when u a after q = subst (λ (n : ℕ). Exactly (W.Quantize u) n) (sym (q .answered)) (quantize-exactly u)
+pub quantize-when : (u : Q.Input) (a : Answer) (after : List ℤ) → Q.Quantized u a after → InOrder (W.Quantize u) W.quantizeNumbers (number a)
+quantize-when u a after q = subst (λ (n : ℕ). InOrder (W.Quantize u) W.quantizeNumbers n) (sym (q .answered)) (quantize-order u)
 
 -- ---- the forward WHT
 forward-has : (block : List ℤ) (n : ℕ) → W.Forward block n

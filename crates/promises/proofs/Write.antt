@@ -1,4 +1,4 @@
--- `vbk_write` gives each number when, and only when, its condition holds and no lower one does.
+-- `vbk_write` gives each number when, and only when, its condition holds and none before it does.
 use mathlib.Core.Path.{_≡_, refl, sym, subst, ap, _∙_}
 use mathlib.Core.Bool.{Bool, true, false, not, _||_}
 use mathlib.Core.List.{List, [], _∷_}
@@ -10,7 +10,7 @@ use lib.ListN.{length, getD}
 use Rattle.whole.proofs.Tests.{any-hit}
 use Rattle.answers.specs.Answers.{number}
 use Rattle.answers.specs.Limits.{AREA_LIMIT, FILE_LIMIT}
-use Rattle.answers.specs.Bad.{badDepth}
+use Rattle.answers.specs.Bad.{badDepth, retired}
 use Rattle.answers.specs.Sizes.{area}
 use Rattle.answers.proofs.Numbers.{Applies, there}
 use Rattle.vbk_read.specs.Header.{badArea}
@@ -19,9 +19,9 @@ use Rattle.vbk_write.specs.Promises.{anyAbove, badLists, badCounts, badTotal, m
 use Rattle.vbk_write.specs.declared.Written.{Written}
 use Rattle.vbk_write.proofs.Lengths.{alike}
 use Rattle.promises.specs.Conditions.{SomeAbove, OtherCount}
-use Rattle.promises.specs.Exactly.{Exactly}
+use Rattle.promises.specs.Exactly.{InOrder}
 use Rattle.promises.specs.When as W
-use Rattle.promises.proofs.Exactly.{Each, none, more, here-if, exactly}
+use Rattle.promises.proofs.Exactly.{Each, none, more, here-if, in-order}
 use Rattle.promises.proofs.Tests as T
 
 -- ---- 2 and 14
@@ -73,7 +73,7 @@ module _ (l : Lent) (room : ℕ) where
   abbrev total : Bool
   total = badTotal (l .counts) (length (l .tokens))
 
-  misfits : misfit l ≡ true → W.Write l room 6
+  misfits : misfit l ≡ true → W.Write l room 4
   unfolding misfit badTotal
   misfits h =
       T.or-true samples (badLists l || (counts || total)) (λ e. W.samples (T.differ (length (l .samples)) (l .width * l .height) e))
@@ -105,7 +105,7 @@ module _ (l : Lent) (room : ℕ) where
   abbrev plane : ℕ
   plane = l .width * l .height
 
-  larges : tooLarge l ≡ true → W.Write l room 13
+  larges : tooLarge l ≡ true → W.Write l room 5
   unfolding tooLarge badArea
   larges h =
       T.or-true (eqb plane 0 || ltb AREA_LIMIT plane) (ltb FILE_LIMIT (length (fileOf l)))
@@ -125,40 +125,45 @@ module _ (l : Lent) (room : ℕ) where
   unfolding tooLarge
   large-long h = T.right (badArea plane) (ltb FILE_LIMIT (length (fileOf l))) (lt-ltb FILE_LIMIT (length (fileOf l)) h)
 
-  -- ---- the table
-  has : (n : ℕ) → W.Write l room n
-      → Applies n
-      ((1, badDepth (l .depth))
-      ∷ (2, anyAbove 3 (l .sizes))
-      ∷ (6, misfit l)
-      ∷ (13, tooLarge l)
-      ∷ (14, anyAbove 1 (l .lossless))
-      ∷ (17, ltb room (length (fileOf l)))
-      ∷ [])
-  has n (W.depth h) = here-if 1 _ _ (T.depth-test (l .depth) h)
-  has n (W.size h) = there (here-if 2 _ _ (above-test 3 (l .sizes) h))
-  has n (W.samples h) = there (there (here-if 6 _ _ (misfit-samples h)))
-  has n (W.lists h) = there (there (here-if 6 _ _ (misfit-lists h)))
-  has n (W.count h) = there (there (here-if 6 _ _ (misfit-count h)))
-  has n (W.sum h) = there (there (here-if 6 _ _ (misfit-total h)))
-  has n (W.empty h) = there (there (there (here-if 13 _ _ (large-empty h))))
-  has n (W.wide h) = there (there (there (here-if 13 _ _ (large-wide h))))
-  has n (W.long h) = there (there (there (here-if 13 _ _ (large-long h))))
-  has n (W.lossless h) = there (there (there (there (here-if 14 _ _ (above-test 1 (l .lossless) h)))))
-  has n (W.short h) = there (there (there (there (there (here-if 17 _ _ (lt-ltb room (length (fileOf l)) h))))))
+  -- ---- the steps
+  abbrev steps : List (ℕ × Bool)
+  steps =
+      (1, badDepth (l .depth))
+      ∷ (2, retired (l .depth))
+      ∷ (3, anyAbove 3 (l .sizes))
+      ∷ (4, misfit l)
+      ∷ (5, tooLarge l)
+      ∷ (6, anyAbove 1 (l .lossless))
+      ∷ (7, ltb room (length (fileOf l)))
+      ∷ []
 
-  write-exactly : Exactly (W.Write l room) (answerOf l room)
-  unfolding answerOf
-  write-exactly =
-      exactly (W.Write l room) _ tt
-      (more (λ e. W.depth (T.no-depth (l .depth) e))
-      (more (λ e. W.size (some-above 3 (l .sizes) e))
+  has : (n : ℕ) → W.Write l room n → Applies n steps
+  has n (W.Write.depth h) = here-if 1 _ _ (T.depth-test (l .depth) h)
+  has n (W.Write.retired h) = there (here-if 2 _ _ (eq-eqb (l .depth) 12 h))
+  has n (W.Write.size h) = there (there (here-if 3 _ _ (above-test 3 (l .sizes) h)))
+  has n (W.Write.samples h) = there (there (there (here-if 4 _ _ (misfit-samples h))))
+  has n (W.Write.lists h) = there (there (there (here-if 4 _ _ (misfit-lists h))))
+  has n (W.Write.count h) = there (there (there (here-if 4 _ _ (misfit-count h))))
+  has n (W.Write.sum h) = there (there (there (here-if 4 _ _ (misfit-total h))))
+  has n (W.Write.empty h) = there (there (there (there (here-if 5 _ _ (large-empty h)))))
+  has n (W.Write.wide h) = there (there (there (there (here-if 5 _ _ (large-wide h)))))
+  has n (W.Write.long h) = there (there (there (there (here-if 5 _ _ (large-long h)))))
+  has n (W.Write.lossless h) = there (there (there (there (there (here-if 6 _ _ (above-test 1 (l .lossless) h))))))
+  has n (W.Write.short h) = there (there (there (there (there (there (here-if 7 _ _ (lt-ltb room (length (fileOf l)) h)))))))
+
+  each : Each (W.Write l room) steps
+  each =
+      more (λ e. W.Write.depth (T.no-depth (l .depth) e))
+      (more (λ e. W.Write.retired (eqb-true (l .depth) 12 e))
+      (more (λ e. W.Write.size (some-above 3 (l .sizes) e))
       (more misfits
       (more larges
-      (more (λ e. W.lossless (some-above 1 (l .lossless) e))
-      (more (λ e. W.short (ltb-true room (length (fileOf l)) e)) none))))))
-      has
+      (more (λ e. W.Write.lossless (some-above 1 (l .lossless) e)) (more (λ e. W.Write.short (ltb-true room (length (fileOf l)) e)) none))))))
+
+  write-order : InOrder (W.Write l room) W.writeNumbers (answerOf l room)
+  unfolding answerOf
+  write-order = in-order (W.Write l room) W.writeNumbers steps refl tt each has
 
 -- `vbk_write`
-pub write-when : (l : Lent) (out : List ℕ) (r : Written) (after : List ℕ) → Wrote l out r after → Exactly (W.Write l (length out)) (number (r .answer))
-write-when l out r after w = subst (λ (n : ℕ). Exactly (W.Write l (length out)) n) (sym (w .answered)) (write-exactly l (length out))
+pub write-when : (l : Lent) (out : List ℕ) (r : Written) (after : List ℕ) → Wrote l out r after → InOrder (W.Write l (length out)) W.writeNumbers (number (r .answer))
+write-when l out r after w = subst (λ (n : ℕ). InOrder (W.Write l (length out)) W.writeNumbers n) (sym (w .answered)) (write-order l (length out))

@@ -83,14 +83,19 @@ pub data Report (u : P.Input) : ℕ → Type 0 where
   past : TOTAL_LIMIT < total (u .counts) + length (u .block .tokens) → Report u 15
   sum : SumBeyond (u .counts) (u .sums) → Report u 15
 
--- the quantizer
+-- the quantizer, step by step: depth 12, which is no longer written, is told in the place of a depth that there is not
 pub data Quantize (u : Q.Input) : ℕ → Type 0 where
   depth : NoDepth (u .depth) → Quantize u 1
-  size : 3 < u .size → Quantize u 2
-  dc : NoQuantizer (u .dc .0) → Quantize u 5
-  ac : NoQuantizer (u .ac .0) → Quantize u 5
-  count : LIST_LIMIT < length (u .coefs) → Quantize u 6
-  coefficient : SomeBeyond COEF_LIMIT (length (u .coefs)) (u .coefs) → Quantize u 9
+  retired : u .depth ≡ 12 → Quantize u 2
+  size : 3 < u .size → Quantize u 3
+  dc : NoQuantizer (u .dc .0) → Quantize u 4
+  ac : NoQuantizer (u .ac .0) → Quantize u 4
+  count : LIST_LIMIT < length (u .coefs) → Quantize u 5
+  coefficient : SomeBeyond COEF_LIMIT (length (u .coefs)) (u .coefs) → Quantize u 6
+
+-- the number of each of its steps, 0 for none
+abbrev pub quantizeNumbers : List ℕ
+quantizeNumbers = 0 ∷ 1 ∷ 20 ∷ 2 ∷ 5 ∷ 6 ∷ 9 ∷ []
 
 -- the quantizer that takes a rule, step by step: a rule other than 1 and 2, then all that the quantizer refuses
 pub data Rule (rule : ℕ) (u : Q.Input) : ℕ → Type 0 where
@@ -99,7 +104,7 @@ pub data Rule (rule : ℕ) (u : Q.Input) : ℕ → Type 0 where
 
 -- the number of each of its steps, 0 for none
 abbrev pub ruleNumbers : List ℕ
-ruleNumbers = 0 ∷ 19 ∷ 1 ∷ 2 ∷ 3 ∷ 4 ∷ 5 ∷ 6 ∷ 7 ∷ 8 ∷ 9 ∷ []
+ruleNumbers = 0 ∷ 19 ∷ 1 ∷ 20 ∷ 2 ∷ 5 ∷ 6 ∷ 9 ∷ []
 
 -- the forward WHT
 pub data Forward (block : List ℤ) : ℕ → Type 0 where
@@ -156,16 +161,21 @@ pub data Run (s samples answers : List ℕ) : ℕ → Type 0 where
 abbrev pub runNumbers : List ℕ
 runNumbers = 0 ∷ 6 ∷ 13 ∷ 12 ∷ 10 ∷ 11 ∷ 1 ∷ 13 ∷ 12 ∷ []
 
--- a VBK file to be written
+-- a VBK file to be written, step by step: depth 12 is told in the place of a depth that there is not
 pub data Write (l : Lent) (room : ℕ) : ℕ → Type 0 where
   depth : NoDepth (l .depth) → Write l room 1
-  size : SomeAbove 3 (l .sizes) → Write l room 2
-  samples : (length (l .samples) ≡ l .width * l .height → ⊥) → Write l room 6
-  lists : (Alike l → ⊥) → Write l room 6
-  count : OtherCount (l .sizes) (l .counts) → Write l room 6
-  sum : (tokensBefore (l .counts) (length (l .counts)) ≡ length (l .tokens) → ⊥) → Write l room 6
-  empty : l .width * l .height ≡ 0 → Write l room 13
-  wide : AREA_LIMIT < l .width * l .height → Write l room 13
-  long : FILE_LIMIT < length (fileOf l) → Write l room 13
-  lossless : SomeAbove 1 (l .lossless) → Write l room 14
-  short : room < length (fileOf l) → Write l room 17
+  retired : l .depth ≡ 12 → Write l room 2
+  size : SomeAbove 3 (l .sizes) → Write l room 3
+  samples : (length (l .samples) ≡ l .width * l .height → ⊥) → Write l room 4
+  lists : (Alike l → ⊥) → Write l room 4
+  count : OtherCount (l .sizes) (l .counts) → Write l room 4
+  sum : (tokensBefore (l .counts) (length (l .counts)) ≡ length (l .tokens) → ⊥) → Write l room 4
+  empty : l .width * l .height ≡ 0 → Write l room 5
+  wide : AREA_LIMIT < l .width * l .height → Write l room 5
+  long : FILE_LIMIT < length (fileOf l) → Write l room 5
+  lossless : SomeAbove 1 (l .lossless) → Write l room 6
+  short : room < length (fileOf l) → Write l room 7
+
+-- the number of each of its steps, 0 for none
+abbrev pub writeNumbers : List ℕ
+writeNumbers = 0 ∷ 1 ∷ 20 ∷ 2 ∷ 6 ∷ 13 ∷ 14 ∷ 17 ∷ []

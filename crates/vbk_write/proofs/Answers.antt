@@ -7,7 +7,7 @@ use borrow.Author.Tests.{lt-ltb, le-ltb, eq-eqb, ne-eqb, ltb-false}
 use lib.Dec.{ltb, eqb}
 use lib.ListN.{length}
 use Rattle.answers.specs.Limits.{FILE_LIMIT}
-use Rattle.answers.specs.Bad.{badDepth}
+use Rattle.answers.specs.Bad.{badDepth, retired}
 use Rattle.answers.proofs.Numbers.{pass, rest}
 use Rattle.vbk_read.specs.Header.{badArea}
 use Rattle.vbk_read.proofs.Headers.{area-ok}
@@ -63,38 +63,43 @@ module _ (l : Lent) where
     unfolding answerOf
     is-depth a = rw a
 
-    module _ (a : badDepth (l .depth) ≡ false) where
+    pub is-retired : badDepth (l .depth) ≡ false → retired (l .depth) ≡ true → 20 ≡ answerOf l room
+    unfolding answerOf
+    is-retired a w = rw (a, w)
+
+    module _ (a : badDepth (l .depth) ≡ false) (w : retired (l .depth) ≡ false) where
       pub is-size : anyAbove 3 (l .sizes) ≡ true → 2 ≡ answerOf l room
       unfolding answerOf
-      is-size b = rw (a, b)
+      is-size b = rw (a, w, b)
 
       module _ (b : anyAbove 3 (l .sizes) ≡ false) where
         pub is-length : misfit l ≡ true → 6 ≡ answerOf l room
         unfolding answerOf
-        is-length d = rw (a, b, d)
+        is-length d = rw (a, w, b, d)
 
         module _ (d : misfit l ≡ false) where
           pub is-large : tooLarge l ≡ true → 13 ≡ answerOf l room
           unfolding answerOf
-          is-large e = rw (a, b, d, e)
+          is-large e = rw (a, w, b, d, e)
 
           module _ (e : tooLarge l ≡ false) where
             pub is-lossless : anyAbove 1 (l .lossless) ≡ true → 14 ≡ answerOf l room
             unfolding answerOf
-            is-lossless f = rw (a, b, d, e, f)
+            is-lossless f = rw (a, w, b, d, e, f)
 
             module _ (f : anyAbove 1 (l .lossless) ≡ false) where
               pub is-room : {n : ℕ} → n ≡ fileLength (l .width * l .height) (length (l .xs)) (length (l .tokens)) → room < n → 17 ≡ answerOf l room
               unfolding answerOf
-              is-room {n} h k = rw (a, b, d, e, f, lt-ltb room (length (fileOf l)) (omega (arith, file-length l (fit l d))))
+              is-room {n} h k = rw (a, w, b, d, e, f, lt-ltb room (length (fileOf l)) (omega (arith, file-length l (fit l d))))
 
               pub is-done : {n : ℕ} → n ≡ fileLength (l .width * l .height) (length (l .xs)) (length (l .tokens)) → n ≤ room → 0 ≡ answerOf l room
               unfolding answerOf
-              is-done {n} h k = rw (a, b, d, e, f, le-ltb room (length (fileOf l)) (omega (arith, file-length l (fit l d))))
+              is-done {n} h k = rw (a, w, b, d, e, f, le-ltb room (length (fileOf l)) (omega (arith, file-length l (fit l d))))
 
 -- what answer 0 says
 pub record Taken (l : Lent) (room : ℕ) : Type 0 where
   pub depth-is : badDepth (l .depth) ≡ false
+  pub kept : retired (l .depth) ≡ false
   pub sizes-are : anyAbove 3 (l .sizes) ≡ false
   pub fits : Fit l
   pub area-is : badArea (l .width * l .height) ≡ false
@@ -106,14 +111,16 @@ pub taken : (l : Lent) (room : ℕ) → answerOf l room ≡ 0 → Taken l room
 unfolding answerOf tooLarge
 taken l room h =
     let h2 = rest (badDepth (l .depth)) 0 _ h in
-    let h3 = rest (anyAbove 3 (l .sizes)) 1 _ h2 in
+    let hr = rest (retired (l .depth)) 19 _ h2 in
+    let h3 = rest (anyAbove 3 (l .sizes)) 1 _ hr in
     let h4 = rest (misfit l) 5 _ h3 in
     let h5 = rest (tooLarge l) 12 _ h4 in
     let h6 = rest (anyAbove 1 (l .lossless)) 13 _ h5 in
     let t = pass (tooLarge l) 12 _ h4 in
     record {
       depth-is = pass (badDepth (l .depth)) 0 _ h;
-      sizes-are = pass (anyAbove 3 (l .sizes)) 1 _ h2;
+      kept = pass (retired (l .depth)) 19 _ h2;
+      sizes-are = pass (anyAbove 3 (l .sizes)) 1 _ hr;
       fits = fit l (pass (misfit l) 5 _ h3);
       area-is = or-left (badArea (l .width * l .height)) (ltb FILE_LIMIT (length (fileOf l))) t;
       short = ltb-false 65535 (length (fileOf l)) (or-right (badArea (l .width * l .height)) (ltb FILE_LIMIT (length (fileOf l))) t);

@@ -16,7 +16,7 @@ use Rattle.vbk_write.specs.Lent.{Lent, Alike, tokensBefore, tokensFrom, 
 use Rattle.vbk_write.specs.Promises.{answerOf}
 use Rattle.vbk_write.specs.Trips.{Bytes, WrittenBack}
 use Rattle.vbk_write.proofs.Back.{entry-same, clip-same}
-use Rattle.vbk_write.proofs.Trips.{Copied, file-is, taken-back}
+use Rattle.vbk_write.proofs.Trips.{Copied, file-is, taken-back, refused-back}
 
 -- zeros, past the last record
 abbrev zeros : Entry
@@ -112,4 +112,4 @@ copied s = record { lists-are = alike-copied (says s); total-is = total-copied (
 
 -- a whole file, read and written, comes back
 pub written-back : (s : List ℕ) → Bytes s → whole s ≡ true → WrittenBack s
-written-back s by h = record { taken = taken-back s by h (lentOf (says s)) (copied s); file = file-is s by h (lentOf (says s)) (copied s) }
+written-back s by h = record { taken = taken-back s by h (lentOf (says s)) (copied s); refused = refused-back s by h (lentOf (says s)) (copied s); file = file-is s by h (lentOf (says s)) (copied s) }

@@ -16,7 +16,7 @@ use Rattle.whole.specs.Lists.{tabulate}
 use Rattle.whole.specs.Tests.{anyBelow}
 use Rattle.whole.proofs.Lists.{length-tabulate, getD-tabulate}
 use Rattle.whole.proofs.Tests.{any-at, any-none, any-more}
-use Rattle.answers.specs.Bad.{badDepth}
+use Rattle.answers.specs.Bad.{badDepth, retired}
 use Rattle.answers.specs.Sizes.{area}
 use Rattle.vbk_read.specs.Bytes.{le4, signed32}
 use Rattle.vbk_read.specs.Header.{depthOf, widthOf, heightOf, planeArea, sampleAt, samplesOf, badArea, firstRecord, headerAnswer}
@@ -29,7 +29,7 @@ use Rattle.vbk_write.specs.Inner.{fileLength}
 use Rattle.vbk_write.specs.Trips.{Tokens32, Bytes, ReadBack}
 use Rattle.vbk_write.proofs.Counts.{none-above}
 use Rattle.vbk_write.proofs.Lengths.{Fit, fit, file-length}
-use Rattle.vbk_write.proofs.Answers.{Taken, taken, is-done, together}
+use Rattle.vbk_write.proofs.Answers.{Taken, taken, is-done, is-retired, together}
 use Rattle.vbk_write.proofs.Back.{Sound, AllSound, none, more, Good, header-back, says-back, whole-back, no-entries}
 use Rattle.vbk_write.proofs.Forth.{There, there, Next, whole-more, and-left, and-right, forth}
 
@@ -222,8 +222,18 @@ module _ (s : List ℕ) (by : Bytes s) (h : whole s ≡ true) (l : Lent) (c : Co
       let g = good s header in
       rw (area-is, file-is, ne-eqb (planeArea s) 0 (λ e. absurd (omega (arith, g .area-some))), le-ltb 4096 (planeArea s) (g .area-fits), le-ltb 65535 (length s) (g .file-fits))
 
-  -- the call writes the file again
-  pub taken-back : (room : ℕ) → length s ≤ room → answerOf l room ≡ 0
-  taken-back room p =
-      let d : badDepth (l .depth) ≡ false = rw depth-is (good s header .depth-is) in
-      sym (is-done l room d sizes-are fits not-large lossless-are refl (omega (arith, file-length l (fit l fits), ap length file-is)))
+  -- the call writes the file again, at depths 8 and 10
+  good-depth : badDepth (l .depth) ≡ false
+  good-depth = rw depth-is (good s header .depth-is)
+
+  pub taken-back : (depthOf s ≡ 12 → ⊥) → (room : ℕ) → length s ≤ room → answerOf l room ≡ 0
+  taken-back w room p =
+      let d = good-depth in
+      let k : retired (l .depth) ≡ false = rw depth-is (ne-eqb (depthOf s) 12 w) in
+      sym (is-done l room d k sizes-are fits not-large lossless-are refl (omega (arith, file-length l (fit l fits), ap length file-is)))
+
+  -- and at depth 12 it refuses
+  pub refused-back : depthOf s ≡ 12 → (room : ℕ) → answerOf l room ≡ 20
+  refused-back e room =
+      let k : retired (l .depth) ≡ true = rw depth-is (eq-eqb (depthOf s) 12 e) in
+      sym (is-retired l room good-depth k)

@@ -8,7 +8,7 @@ use lib.ListN.{length, getD, drop}
 use Rattle.whole.specs.Tests.{anyBelow}
 use Rattle.answers.specs.Answers.{number, lowest}
 use Rattle.answers.specs.Limits.{FILE_LIMIT}
-use Rattle.answers.specs.Bad.{badDepth}
+use Rattle.answers.specs.Bad.{badDepth, retired}
 use Rattle.answers.specs.Sizes.{area}
 use Rattle.vbk_read.specs.Header.{badArea}
 use Rattle.vbk_write.specs.Lent.{Lent, tokensBefore, fileOf}
@@ -54,11 +54,12 @@ misfit l =
 unfoldable pub tooLarge : Lent → Bool
 tooLarge l = badArea (l .width * l .height) || ltb FILE_LIMIT (length (fileOf l))
 
--- the lowest number that applies; last, 17: the buffer is too short for the file
+-- the lowest number that applies, but that 20 stands in the place of 1; last, 17: the buffer is too short for the file
 unfoldable pub answerOf : Lent → ℕ → ℕ
 answerOf l room =
     lowest
     ((1, badDepth (l .depth))
+    ∷ (20, retired (l .depth))
     ∷ (2, anyAbove 3 (l .sizes))
     ∷ (6, misfit l)
     ∷ (13, tooLarge l)

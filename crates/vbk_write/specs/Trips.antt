@@ -6,7 +6,7 @@ use Prim.Native.Nat.{ℕ, _≤_, _<_, _^_}
 use lib.IntN.{ℤ, pos}
 use lib.ListN.{length, getD}
 use lib.Signed.{mag}
-use Rattle.vbk_read.specs.Header.{headerAnswer}
+use Rattle.vbk_read.specs.Header.{depthOf, headerAnswer}
 use Rattle.vbk_write.specs.Clip.{says, whole}
 use Rattle.vbk_write.specs.Lent.{Lent, clipOf, fileOf, lentOf}
 use Rattle.vbk_write.specs.Promises.{answerOf}
@@ -25,7 +25,8 @@ pub record ReadBack (l : Lent) : Type 0 where
   pub says-it : says (fileOf l) ≡ clipOf l
   pub all-whole : whole (fileOf l) ≡ true
 
--- a file's own lists are taken in any buffer that the file fits, and give the file
+-- a file's own lists give the file; they are taken in any buffer that the file fits, but those of depth 12 are refused, which is read and no longer written
 pub record WrittenBack (s : List ℕ) : Type 0 where
-  pub taken : (room : ℕ) → length s ≤ room → answerOf (lentOf (says s)) room ≡ 0
+  pub taken : (depthOf s ≡ 12 → ⊥) → (room : ℕ) → length s ≤ room → answerOf (lentOf (says s)) room ≡ 0
+  pub refused : depthOf s ≡ 12 → (room : ℕ) → answerOf (lentOf (says s)) room ≡ 20
   pub file : fileOf (lentOf (says s)) ≡ s

@@ -143,8 +143,12 @@ fn check(
 ) -> Answer
     ensures { λ r. ⌜ number r ≡ answerOf (record { depth = depth; width = width; height = height; samples = now (samples .entry); xs = now (xs .entry); ys = now (ys .entry); sizes = now (sizes .entry); tx-types = now («tx_types» .entry); lossless = now (lossless .entry); dcs = now (dcs .entry); acs = now (acs .entry); counts = now (counts .entry); tokens = now (tokens .entry) }) room ⌝ }
 {
-    if answers::bad_depth(words::byte32(depth)) {
+    let bits = words::byte32(depth);
+    if answers::bad_depth(bits) {
         return Answer::Depth;
+    }
+    if answers::retired(bits) {
+        return Answer::Retired;
     }
     if any_above(sizes, 3) {
         return Answer::Size;

@@ -6,7 +6,7 @@ use borrow.Author.Needs.{needs}
 use lib.Dec.{ltb}
 use lib.ListN.{length}
 use Rattle.answers.specs.Limits.{FILE_LIMIT}
-use Rattle.answers.specs.Bad.{badDepth}
+use Rattle.answers.specs.Bad.{badDepth, retired}
 use Rattle.vbk_read.specs.Header.{badArea}
 use Rattle.vbk_write.specs.Lent.{Lent, Alike}
 use Rattle.vbk_write.specs.Promises.{anyAbove, badLists, badCounts, badTotal, misfit, tooLarge}
@@ -27,94 +27,103 @@ depth-is c = c .bad-depth .ensures ∙ ap badDepth (c .before .byte32 .ensures .
 depth-passed : (c : tie.Else1) → badDepth (lent (c .before .before .before .before .before .before .before .before .before .before .before .before) .depth) ≡ false
 depth-passed c = sym (depth-is (c .before)) ∙ c .if1 .left
 
-sizes-passed : (c : tie.Else2) → anyAbove 3 (lent (c .before .before .before .before .before .before .before .before .before .before .before .before .before .before) .sizes) ≡ false
-sizes-passed c = sym (c .before .any-above .ensures) ∙ c .if2 .left
+kept-is : (c : tie.After-retired) → c .retired .result ≡ retired (c .before .before .before .before .before .before .before .before .before .before .before .before .before .args .depth)
+kept-is c = c .retired .ensures ∙ ap retired (c .before .before .before .byte32 .ensures .0)
 
-samples-passed : (c : tie.Else3) → let l = lent (c .before .before .before .before .before .before .before .before .before .before .before .before .before .before .before .before) in length (l .samples) ≡ l .width * l .height
-samples-passed c = c .if3 .left ∙ c .before .plane-area .ensures
+kept-passed : (c : tie.Else2) → retired (lent (c .before .before .before .before .before .before .before .before .before .before .before .before .before .before) .depth) ≡ false
+kept-passed c = sym (kept-is (c .before)) ∙ c .if2 .left
 
-lists-passed : (c : tie.Else4) → badLists (lent (c .before .before .before .before .before .before .before .before .before .before .before .before .before .before .before .before .before .before)) ≡ false
+sizes-passed : (c : tie.Else3) → anyAbove 3 (lent (c .before .before .before .before .before .before .before .before .before .before .before .before .before .before .before .before) .sizes) ≡ false
+sizes-passed c = sym (c .before .any-above .ensures) ∙ c .if3 .left
+
+samples-passed : (c : tie.Else4) → let l = lent (c .before .before .before .before .before .before .before .before .before .before .before .before .before .before .before .before .before .before) in length (l .samples) ≡ l .width * l .height
+samples-passed c = c .if4 .left ∙ c .before .plane-area .ensures
+
+lists-passed : (c : tie.Else5) → badLists (lent (c .before .before .before .before .before .before .before .before .before .before .before .before .before .before .before .before .before .before .before .before)) ≡ false
 unfolding badLists
-lists-passed c = sym (c .before .any-other .ensures) ∙ c .if4 .left
+lists-passed c = sym (c .before .any-other .ensures) ∙ c .if5 .left
 
-fits : (c : tie.Else5) → misfit (lent (c .before .before .before .before .before .before .before .before .before .before .before .before .before .before .before .before .before .before .before .before)) ≡ false
-fits c = A.together (lent (c .before .before .before .before .before .before .before .before .before .before .before .before .before .before .before .before .before .before .before .before)) (samples-passed (c .before .before .before .before)) (lists-passed (c .before .before)) (sym (c .before .bad-counts .ensures) ∙ c .if5 .left)
+fits : (c : tie.Else6) → misfit (lent (c .before .before .before .before .before .before .before .before .before .before .before .before .before .before .before .before .before .before .before .before .before .before)) ≡ false
+fits c = A.together (lent (c .before .before .before .before .before .before .before .before .before .before .before .before .before .before .before .before .before .before .before .before .before .before)) (samples-passed (c .before .before .before .before)) (lists-passed (c .before .before)) (sym (c .before .bad-counts .ensures) ∙ c .if6 .left)
 
-large-is : (c : tie.After-too-large) → c .too-large .result ≡ tooLarge (lent (c .before .before .before .before .before .before .before .before .before .before .before .before .before .before .before .before .before .before .before .before .before))
+large-is : (c : tie.After-too-large) → c .too-large .result ≡ tooLarge (lent (c .before .before .before .before .before .before .before .before .before .before .before .before .before .before .before .before .before .before .before .before .before .before .before))
 large-is c =
-    let l = lent (c .before .before .before .before .before .before .before .before .before .before .before .before .before .before .before .before .before .before .before .before .before) in
+    let l = lent (c .before .before .before .before .before .before .before .before .before .before .before .before .before .before .before .before .before .before .before .before .before .before .before) in
     c .too-large .ensures
     ∙ ap (λ k. badArea k || ltb FILE_LIMIT (fileLength k (length (l .xs)) (length (l .tokens)))) (c .before .before .before .before .before .before .plane-area .ensures)
     ∙ sym (A.large-is l (fits (c .before)))
 
-large-passed : (c : tie.Else6) → tooLarge (lent (c .before .before .before .before .before .before .before .before .before .before .before .before .before .before .before .before .before .before .before .before .before .before)) ≡ false
-large-passed c = sym (large-is (c .before)) ∙ c .if6 .left
+large-passed : (c : tie.Else7) → tooLarge (lent (c .before .before .before .before .before .before .before .before .before .before .before .before .before .before .before .before .before .before .before .before .before .before .before .before)) ≡ false
+large-passed c = sym (large-is (c .before)) ∙ c .if7 .left
 
-lossless-passed : (c : tie.Else7) → anyAbove 1 (lent (c .before .before .before .before .before .before .before .before .before .before .before .before .before .before .before .before .before .before .before .before .before .before .before .before) .lossless) ≡ false
-lossless-passed c = sym (c .before .any-above2 .ensures) ∙ c .if7 .left
+lossless-passed : (c : tie.Else8) → anyAbove 1 (lent (c .before .before .before .before .before .before .before .before .before .before .before .before .before .before .before .before .before .before .before .before .before .before .before .before .before .before) .lossless) ≡ false
+lossless-passed c = sym (c .before .any-above2 .ensures) ∙ c .if8 .left
 
 returns : tie.Need-returns
 returns c = A.is-depth (lent (c .before .before .before .before .before .before .before .before .before .before .before .before)) (c .before .before .before .before .before .before .before .before .before .before .before .before .args .room) (sym (depth-is (c .before)) ∙ c .if1 .taken)
 
 returns-2 : tie.Need-returns-2
-returns-2 c =
-    A.is-size (lent (c .before .before .before .before .before .before .before .before .before .before .before .before .before .before)) (c .before .before .before .before .before .before .before .before .before .before .before .before .before .before .args .room) (depth-passed (c .before .before)) (sym (c .before .any-above .ensures) ∙ c .if2 .taken)
+returns-2 c = A.is-retired (lent (c .before .before .before .before .before .before .before .before .before .before .before .before .before .before)) (c .before .before .before .before .before .before .before .before .before .before .before .before .before .before .args .room) (depth-passed (c .before .before)) (sym (kept-is (c .before)) ∙ c .if2 .taken)
 
 returns-3 : tie.Need-returns-3
 returns-3 c =
-    let l = lent (c .before .before .before .before .before .before .before .before .before .before .before .before .before .before .before .before) in
-    A.is-length l (c .before .before .before .before .before .before .before .before .before .before .before .before .before .before .before .before .args .room) (depth-passed (c .before .before .before .before)) (sizes-passed (c .before .before))
-    (A.other-samples l (λ e. c .if3 .taken (e ∙ sym (c .before .plane-area .ensures))))
+    A.is-size (lent (c .before .before .before .before .before .before .before .before .before .before .before .before .before .before .before .before)) (c .before .before .before .before .before .before .before .before .before .before .before .before .before .before .before .before .args .room) (depth-passed (c .before .before .before .before)) (kept-passed (c .before .before)) (sym (c .before .any-above .ensures) ∙ c .if3 .taken)
 
 returns-4 : tie.Need-returns-4
-unfolding badLists
 returns-4 c =
     let l = lent (c .before .before .before .before .before .before .before .before .before .before .before .before .before .before .before .before .before .before) in
-    A.is-length l (c .before .before .before .before .before .before .before .before .before .before .before .before .before .before .before .before .before .before .args .room) (depth-passed (c .before .before .before .before .before .before)) (sizes-passed (c .before .before .before .before))
-    (A.other-lists l (samples-passed (c .before .before)) (sym (c .before .any-other .ensures) ∙ c .if4 .taken))
+    A.is-length l (c .before .before .before .before .before .before .before .before .before .before .before .before .before .before .before .before .before .before .args .room) (depth-passed (c .before .before .before .before .before .before)) (kept-passed (c .before .before .before .before)) (sizes-passed (c .before .before))
+    (A.other-samples l (λ e. c .if4 .taken (e ∙ sym (c .before .plane-area .ensures))))
+
+returns-5 : tie.Need-returns-5
+unfolding badLists
+returns-5 c =
+    let l = lent (c .before .before .before .before .before .before .before .before .before .before .before .before .before .before .before .before .before .before .before .before) in
+    A.is-length l (c .before .before .before .before .before .before .before .before .before .before .before .before .before .before .before .before .before .before .before .before .args .room) (depth-passed (c .before .before .before .before .before .before .before .before)) (kept-passed (c .before .before .before .before .before .before)) (sizes-passed (c .before .before .before .before))
+    (A.other-lists l (samples-passed (c .before .before)) (sym (c .before .any-other .ensures) ∙ c .if5 .taken))
 
 bad-counts-requires : tie.Need-bad-counts-requires
 bad-counts-requires c κs =
-    let a = alike (lent (c .before .before .before .before .before .before .before .before .before .before .before .before .before .before .before .before .before .before)) (lists-passed c) in
+    let a = alike (lent (c .before .before .before .before .before .before .before .before .before .before .before .before .before .before .before .before .before .before .before .before)) (lists-passed c) in
     (a .sizes ∙ sym (a .counts), sizes-passed (c .before .before .before .before))
-
-returns-5 : tie.Need-returns-5
-returns-5 c =
-    let l = lent (c .before .before .before .before .before .before .before .before .before .before .before .before .before .before .before .before .before .before .before .before) in
-    A.is-length l (c .before .before .before .before .before .before .before .before .before .before .before .before .before .before .before .before .before .before .before .before .args .room) (depth-passed (c .before .before .before .before .before .before .before .before)) (sizes-passed (c .before .before .before .before .before .before))
-    (A.other-counts l (samples-passed (c .before .before .before .before)) (lists-passed (c .before .before)) (sym (c .before .bad-counts .ensures) ∙ c .if5 .taken))
 
 returns-6 : tie.Need-returns-6
 returns-6 c =
-    A.is-large (lent (c .before .before .before .before .before .before .before .before .before .before .before .before .before .before .before .before .before .before .before .before .before .before)) (c .before .before .before .before .before .before .before .before .before .before .before .before .before .before .before .before .before .before .before .before .before .before .args .room) (depth-passed (c .before .before .before .before .before .before .before .before .before .before)) (sizes-passed (c .before .before .before .before .before .before .before .before)) (fits (c .before .before))
-    (sym (large-is (c .before)) ∙ c .if6 .taken)
+    let l = lent (c .before .before .before .before .before .before .before .before .before .before .before .before .before .before .before .before .before .before .before .before .before .before) in
+    A.is-length l (c .before .before .before .before .before .before .before .before .before .before .before .before .before .before .before .before .before .before .before .before .before .before .args .room) (depth-passed (c .before .before .before .before .before .before .before .before .before .before)) (kept-passed (c .before .before .before .before .before .before .before .before)) (sizes-passed (c .before .before .before .before .before .before))
+    (A.other-counts l (samples-passed (c .before .before .before .before)) (lists-passed (c .before .before)) (sym (c .before .bad-counts .ensures) ∙ c .if6 .taken))
 
 returns-7 : tie.Need-returns-7
 returns-7 c =
-    A.is-lossless (lent (c .before .before .before .before .before .before .before .before .before .before .before .before .before .before .before .before .before .before .before .before .before .before .before .before)) (c .before .before .before .before .before .before .before .before .before .before .before .before .before .before .before .before .before .before .before .before .before .before .before .before .args .room) (depth-passed (c .before .before .before .before .before .before .before .before .before .before .before .before)) (sizes-passed (c .before .before .before .before .before .before .before .before .before .before)) (fits (c .before .before .before .before)) (large-passed (c .before .before))
-    (sym (c .before .any-above2 .ensures) ∙ c .if7 .taken)
+    A.is-large (lent (c .before .before .before .before .before .before .before .before .before .before .before .before .before .before .before .before .before .before .before .before .before .before .before .before)) (c .before .before .before .before .before .before .before .before .before .before .before .before .before .before .before .before .before .before .before .before .before .before .before .before .args .room) (depth-passed (c .before .before .before .before .before .before .before .before .before .before .before .before)) (kept-passed (c .before .before .before .before .before .before .before .before .before .before)) (sizes-passed (c .before .before .before .before .before .before .before .before)) (fits (c .before .before))
+    (sym (large-is (c .before)) ∙ c .if7 .taken)
+
+returns-8 : tie.Need-returns-8
+returns-8 c =
+    A.is-lossless (lent (c .before .before .before .before .before .before .before .before .before .before .before .before .before .before .before .before .before .before .before .before .before .before .before .before .before .before)) (c .before .before .before .before .before .before .before .before .before .before .before .before .before .before .before .before .before .before .before .before .before .before .before .before .before .before .args .room) (depth-passed (c .before .before .before .before .before .before .before .before .before .before .before .before .before .before)) (kept-passed (c .before .before .before .before .before .before .before .before .before .before .before .before)) (sizes-passed (c .before .before .before .before .before .before .before .before .before .before)) (fits (c .before .before .before .before)) (large-passed (c .before .before))
+    (sym (c .before .any-above2 .ensures) ∙ c .if8 .taken)
 
 file-length-requires : tie.Need-file-length-requires
 file-length-requires c κs =
-    let l = lent (c .before .before .before .before .before .before .before .before .before .before .before .before .before .before .before .before .before .before .before .before .before .before .before .before) in
+    let l = lent (c .before .before .before .before .before .before .before .before .before .before .before .before .before .before .before .before .before .before .before .before .before .before .before .before .before .before) in
     let m = A.small l (fits (c .before .before .before .before)) (large-passed (c .before .before)) in
     (omega (arith, m .0, c .before .before .before .before .before .before .before .before .before .plane-area .ensures), m .1, m .2)
 
 -- the file's length
-length-is : (c : tie.After-file-length) → let l = lent (c .before .before .before .before .before .before .before .before .before .before .before .before .before .before .before .before .before .before .before .before .before .before .before .before .before) in c .file-length .result ≡ fileLength (l .width * l .height) (length (l .xs)) (length (l .tokens))
+length-is : (c : tie.After-file-length) → let l = lent (c .before .before .before .before .before .before .before .before .before .before .before .before .before .before .before .before .before .before .before .before .before .before .before .before .before .before .before) in c .file-length .result ≡ fileLength (l .width * l .height) (length (l .xs)) (length (l .tokens))
 length-is c =
-    let l = lent (c .before .before .before .before .before .before .before .before .before .before .before .before .before .before .before .before .before .before .before .before .before .before .before .before .before) in
+    let l = lent (c .before .before .before .before .before .before .before .before .before .before .before .before .before .before .before .before .before .before .before .before .before .before .before .before .before .before .before) in
     c .file-length .ensures ∙ ap (λ k. fileLength k (length (l .xs)) (length (l .tokens))) (c .before .before .before .before .before .before .before .before .before .before .plane-area .ensures)
-
-returns-8 : tie.Need-returns-8
-returns-8 c =
-    A.is-room (lent (c .before .before .before .before .before .before .before .before .before .before .before .before .before .before .before .before .before .before .before .before .before .before .before .before .before .before)) (c .before .before .before .before .before .before .before .before .before .before .before .before .before .before .before .before .before .before .before .before .before .before .before .before .before .before .args .room) (depth-passed (c .before .before .before .before .before .before .before .before .before .before .before .before .before .before)) (sizes-passed (c .before .before .before .before .before .before .before .before .before .before .before .before)) (fits (c .before .before .before .before .before .before)) (large-passed (c .before .before .before .before)) (lossless-passed (c .before .before))
-    (length-is (c .before)) (c .if8 .taken)
 
 returns-9 : tie.Need-returns-9
 returns-9 c =
-    A.is-done (lent (c .before .before .before .before .before .before .before .before .before .before .before .before .before .before .before .before .before .before .before .before .before .before .before .before .before .before)) (c .before .before .before .before .before .before .before .before .before .before .before .before .before .before .before .before .before .before .before .before .before .before .before .before .before .before .args .room) (depth-passed (c .before .before .before .before .before .before .before .before .before .before .before .before .before .before)) (sizes-passed (c .before .before .before .before .before .before .before .before .before .before .before .before)) (fits (c .before .before .before .before .before .before)) (large-passed (c .before .before .before .before)) (lossless-passed (c .before .before))
-    (length-is (c .before)) (c .if8 .left)
+    A.is-room (lent (c .before .before .before .before .before .before .before .before .before .before .before .before .before .before .before .before .before .before .before .before .before .before .before .before .before .before .before .before)) (c .before .before .before .before .before .before .before .before .before .before .before .before .before .before .before .before .before .before .before .before .before .before .before .before .before .before .before .before .args .room) (depth-passed (c .before .before .before .before .before .before .before .before .before .before .before .before .before .before .before .before)) (kept-passed (c .before .before .before .before .before .before .before .before .before .before .before .before .before .before)) (sizes-passed (c .before .before .before .before .before .before .before .before .before .before .before .before)) (fits (c .before .before .before .before .before .before)) (large-passed (c .before .before .before .before)) (lossless-passed (c .before .before))
+    (length-is (c .before)) (c .if9 .taken)
+
+returns-10 : tie.Need-returns-10
+returns-10 c =
+    A.is-done (lent (c .before .before .before .before .before .before .before .before .before .before .before .before .before .before .before .before .before .before .before .before .before .before .before .before .before .before .before .before)) (c .before .before .before .before .before .before .before .before .before .before .before .before .before .before .before .before .before .before .before .before .before .before .before .before .before .before .before .before .args .room) (depth-passed (c .before .before .before .before .before .before .before .before .before .before .before .before .before .before .before .before)) (kept-passed (c .before .before .before .before .before .before .before .before .before .before .before .before .before .before)) (sizes-passed (c .before .before .before .before .before .before .before .before .before .before .before .before)) (fits (c .before .before .before .before .before .before)) (large-passed (c .before .before .before .before)) (lossless-passed (c .before .before))
+    (length-is (c .before)) (c .if9 .left)
 
 pub check-spec : {M : Type 1} → statement M
 check-spec =
@@ -129,12 +138,14 @@ check-spec =
     returns-3
     (λ c κs. search needs)
     returns-4
-    bad-counts-requires
-    returns-5
     (λ c κs. search needs)
+    returns-5
+    bad-counts-requires
     returns-6
     (λ c κs. search needs)
     returns-7
-    file-length-requires
+    (λ c κs. search needs)
     returns-8
-    returns-9)
+    file-length-requires
+    returns-9
+    returns-10)
