@@ -1,11 +1,14 @@
 ghost use mathlib.Core.Path.{_≡_};
+ghost use mathlib.Core.Bool.{_||_};
 ghost use Prim.Native.Nat.{ℕ, _+_, _*_, _^_, _≤_, _<_};
+ghost use lib.Dec.{eqb};
 ghost use lib.IntN.{pos, natAbs};
 ghost use lib.ListN.{length, getD};
 ghost use Rattle.whole.specs.Lists.{fill};
 ghost use Rattle.whole.specs.Round.{Round2};
 ghost use Rattle.blocks.specs.Block.{live};
 ghost use Rattle.blocks.specs.Inner.{setLine, FirstWithin};
+ghost use Rattle.blocks.specs.Inverse.{bits};
 
 // The n numbers of s at start, start + step, .. into the first places of t.
 pub fn load(t: &mut [i64; 32], s: &[i64], start: usize, step: usize, n: usize)
@@ -109,4 +112,36 @@ pub fn or_plus_most(s: &[i64], start: usize, n: usize, most: u64) -> u64
         all = all | plus_most(s[start + k], most);
     }
     all
+}
+
+// Bits that the columns are rounded by.
+pub fn rounding_bits(n: u32) -> u32
+    requires { ⌜ (2 ≤ n) × (n ≤ 5) ⌝ }
+    ensures { λ r. ⌜ (r ≡ bits n) × (1 ≤ r) × (r ≤ 30) ⌝ }
+{
+    match n {
+        2 => 4,
+        3 => 5,
+        _ => 6,
+    }
+}
+
+// Types 0 and 1 have DCT rows.
+pub fn row_dct(tx_type: u8) -> bool
+    ensures { λ r. ⌜ r ≡ eqb «tx_type» 0 || eqb «tx_type» 1 ⌝ }
+{
+    if tx_type == 0 {
+        return true;
+    }
+    tx_type == 1
+}
+
+// Types 0 and 2 have DCT columns.
+pub fn column_dct(tx_type: u8) -> bool
+    ensures { λ r. ⌜ r ≡ eqb «tx_type» 0 || eqb «tx_type» 2 ⌝ }
+{
+    if tx_type == 0 {
+        return true;
+    }
+    tx_type == 2
 }

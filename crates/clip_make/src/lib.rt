@@ -2,7 +2,7 @@
 ghost use mathlib.Core.Path.{_≡_};
 ghost use mathlib.Core.Bool.{false};
 ghost use Rattle.clip_rows.specs.Rows.{Said};
-ghost use Rattle.clip_parse.specs.Inner.{Held};
+ghost use Rattle.clip_state.specs.Inner.{Held};
 ghost use Rattle.clip_make.specs.Make.{MadeOf};
 use clip_told::NOTHING;
 use clip_told::REFUSED;

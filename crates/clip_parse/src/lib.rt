@@ -1,11 +1,23 @@
 // A clip's text (docs/REFERENCE.md) read into the lists of a file, row by row. What is wrong is kept in the state.
 ghost use mathlib.Core.Path.{_≡_};
-ghost use Prim.Native.Nat.{_+_, _*_, _≤_, _<_};
+ghost use Prim.Native.Nat.{_≤_, _<_};
 ghost use lib.ListN.{length};
-ghost use Rattle.clip_parse.specs.Rows.{letterRow, lineAfter};
-ghost use Rattle.clip_parse.specs.Inner.{Held};
+ghost use Rattle.clip_state.specs.Inner.{Held};
 use clip_rows::Field;
 use clip_rows::Number;
+use clip_state::begin_file;
+use clip_state::begin_record;
+use clip_state::close;
+use clip_state::fail;
+use clip_state::fail_with;
+use clip_state::finish;
+use clip_state::letter_row;
+use clip_state::meet;
+use clip_state::next_line;
+use clip_state::nothing;
+use clip_state::plus;
+use clip_state::tokens_of;
+use clip_state::with_header;
 use clip_told::ABOVE;
 use clip_told::AREA;
 use clip_told::BELOW;
@@ -14,7 +26,6 @@ use clip_told::EMPTY;
 use clip_told::FILE_LENGTH;
 use clip_told::HEADER_LATE;
 use clip_told::HEADER_ROW;
-use clip_told::NO_HEADER;
 use clip_told::NO_RECORD;
 use clip_told::NO_ROW;
 use clip_told::NOT_A_NUMBER;
@@ -22,11 +33,9 @@ use clip_told::NOTHING;
 use clip_told::RECORD_ROW;
 use clip_told::RETIRED;
 use clip_told::RUN_COUNT;
-use clip_told::SAMPLE_COUNT;
 use clip_told::SAMPLE_ROW;
 use clip_told::SAMPLES_LATE;
 use clip_told::State;
-use clip_told::TOKEN_COUNT;
 use clip_told::TOKEN_ROW;
 use clip_told::TOO_FEW;
 use clip_told::TOO_MANY;
@@ -101,14 +110,6 @@ struct Tokens {
     value: i32,
 }
 
-// a + b, or the greatest number.
-fn plus(a: u64, b: u64) -> u64 {
-    if 18446744073709551615 - a < b {
-        return 18446744073709551615;
-    }
-    a + b
-}
-
 fn least(a: u64, b: u64) -> u64
     ensures { λ r. ⌜ (r ≤ a) × (r ≤ b) ⌝ }
 {
@@ -116,43 +117,6 @@ fn least(a: u64, b: u64) -> u64
         return a;
     }
     b
-}
-
-// Nothing is read yet.
-fn nothing() -> State
-    ensures { λ r. ⌜ Held r ⌝ }
-{
-    State {
-        line: 0,
-        row: NO_ROW,
-        wrong: NOTHING,
-        column: 0,
-        from: 0,
-        to: 0,
-        limit: 0,
-        header_line: 0,
-        depth: 0,
-        width: 0,
-        height: 0,
-        samples: 0,
-        met: 0,
-        records: 0,
-        record_line: 0,
-        size: 0,
-        start: 0,
-        need: 0,
-        given: 0,
-        length: 0,
-    }
-}
-
-fn fail(s: State, wrong: u8) -> State
-    requires { ⌜ Held s ⌝ }
-    ensures { λ r. ⌜ Held r ⌝ }
-{
-    let mut t = s;
-    t.wrong = wrong;
-    t
 }
 
 // What is wrong with a number of the header or of a record.
@@ -179,17 +143,6 @@ fn fail_field(s: State, column: u64, f: Field, wrong: u8, limit: u64) -> State
     t.column = column;
     t.from = f.from;
     t.to = f.to;
-    t.limit = limit;
-    t
-}
-
-// What is wrong, with the number to tell beside it.
-pub fn fail_with(s: State, wrong: u8, limit: u64) -> State
-    requires { ⌜ Held s ⌝ }
-    ensures { λ r. ⌜ Held r ⌝ }
-{
-    let mut t = s;
-    t.wrong = wrong;
     t.limit = limit;
     t
 }
@@ -405,18 +358,6 @@ fn read_tokens(text: &[u8], from: usize, to: usize) -> Tokens
     }
 }
 
-// Which row the letter at a place names.
-fn letter_row(b: u8) -> u8
-    ensures { λ r. ⌜ r ≡ letterRow b ⌝ }
-{
-    match b {
-        b'S' => SAMPLE_ROW,
-        b'R' => RECORD_ROW,
-        b'K' => TOKEN_ROW,
-        _ => NO_ROW,
-    }
-}
-
 // Which row the first field names.
 fn row_of(text: &[u8], from: usize, to: usize) -> u8
     requires { ⌜ (from ≤ to) × (to ≤ length (now text)) ⌝ }
@@ -462,34 +403,6 @@ fn check_header(s: State, more: bool) -> State
         return fail(s, AREA);
     }
     begin_file(s, n)
-}
-
-// The file begins, with room for its samples.
-fn begin_file(s: State, n: usize) -> State
-    requires { ⌜ (Held s) × (n ≤ 4096) ⌝ }
-    ensures { λ r. ⌜ Held r ⌝ }
-{
-    if s.records != 0 {
-        return s;
-    }
-    let mut t = s;
-    t.start = 0;
-    t.need = 0;
-    t.length = 10 + 2 * n;
-    t
-}
-
-// What the header says.
-fn with_header(s: State, depth: u8, width: u16, height: u16) -> State
-    requires { ⌜ Held s ⌝ }
-    ensures { λ r. ⌜ Held r ⌝ }
-{
-    let mut t = s;
-    t.header_line = s.line;
-    t.depth = depth;
-    t.width = width;
-    t.height = height;
-    t
 }
 
 // The three numbers of the header.
@@ -620,73 +533,6 @@ fn take_tokens(
         t = add_tokens(t, run, tokens);
         next = f.next;
     }
-    t
-}
-
-// As fail; the line is that of the row that asked for so many.
-fn fail_count(s: State, wrong: u8, line: u64) -> State
-    requires { ⌜ Held s ⌝ }
-    ensures { λ r. ⌜ Held r ⌝ }
-{
-    let mut t = s;
-    t.wrong = wrong;
-    t.line = line;
-    t
-}
-
-// The samples, or the last record's tokens, are as many as were asked for.
-fn close(s: State) -> State
-    requires { ⌜ Held s ⌝ }
-    ensures { λ r. ⌜ Held r ⌝ }
-{
-    if s.records == 0 {
-        let n = vbk_read::plane_area(s.width, s.height) as u64;
-        if s.samples == n {
-            return s;
-        }
-        return fail_count(s, SAMPLE_COUNT, s.header_line);
-    }
-    if s.given == s.need as u64 {
-        return s;
-    }
-    fail_count(s, TOKEN_COUNT, s.record_line)
-}
-
-// The row of one more record is met.
-fn meet(s: State) -> State
-    requires { ⌜ Held s ⌝ }
-    ensures { λ r. ⌜ Held r ⌝ }
-{
-    let mut t = s;
-    t.met = plus(s.met, 1);
-    t
-}
-
-// The number of tokens that a size asks for.
-fn tokens_of(size: u8) -> usize
-    ensures { λ r. ⌜ (16 ≤ r) × (r ≤ 1024) ⌝ }
-{
-    match size {
-        0 => 16,
-        1 => 64,
-        2 => 256,
-        _ => 1024,
-    }
-}
-
-// A record begins, for which the file has room.
-fn begin_record(s: State, size: u8, need: usize) -> State
-    requires { ⌜ (Held s) × ((16 ≤ need) × (s .length + 11 + 4 * need ≤ 65535)) ⌝ }
-    ensures { λ r. ⌜ Held r ⌝ }
-{
-    let mut t = s;
-    t.records = s.records + 1;
-    t.record_line = s.line;
-    t.size = size;
-    t.start = s.start + s.need;
-    t.need = need;
-    t.given = 0;
-    t.length = s.length + 11 + 4 * need;
     t
 }
 
@@ -1009,33 +855,6 @@ fn row_end(text: &[u8], at: usize, end: usize) -> usize
         return at;
     }
     stop
-}
-
-// One line further.
-fn next_line(s: State) -> State
-    requires { ⌜ Held s ⌝ }
-    ensures { λ r. ⌜ (Held r) × (r .line ≡ lineAfter (s .line)) ⌝ }
-{
-    if s.line == 18446744073709551615 {
-        return s;
-    }
-    let mut t = s;
-    t.line = s.line + 1;
-    t
-}
-
-// The text ends: there was a header, and what it and the last record asked for.
-fn finish(s: State) -> State
-    requires { ⌜ Held s ⌝ }
-    ensures { λ r. ⌜ Held r ⌝ }
-{
-    if s.wrong != NOTHING {
-        return s;
-    }
-    if s.header_line == 0 {
-        return fail(s, NO_HEADER);
-    }
-    close(s)
 }
 
 // One line of the text.

@@ -15,7 +15,7 @@ use Rattle.idct.specs.Driver as D
 use Rattle.idct.specs.Rows.{Rowed, transformed}
 use Rattle.exports.specs.Told.{Told}
 use Rattle.exports.specs.Rows.{Asked, summaryNumber, summaryOr, askedAnswer, askedAfter, Beside, Counting, countingAnswer, countingAfter}
-use Rattle.exports.specs.Inner.{placeOf}
+use Rattle.rows_told.specs.Inner.{placeOf}
 
 -- ---- every row of a summary is below 32
 data Below (n : ℕ) : List ℕ → Type 0 where

@@ -2,5 +2,4 @@ pub mod Told
 pub mod Run
 pub mod Report
 pub mod Rows
-pub mod Inner
 pub mod Write

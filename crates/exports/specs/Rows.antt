@@ -3,11 +3,9 @@ use mathlib.Core.Bool.{cond}
 use mathlib.Core.List.{List}
 use Prim.Native.Nat.{ℕ}
 use lib.Dec.{eqb}
-use lib.IntN.{ℤ, pos, negsuc}
+use lib.IntN.{ℤ}
 use lib.ListN.{length}
 use Rattle.answers.specs.Answers.{number}
-use Rattle.summary.specs.declared.Row.{Row}
-use Rattle.summary.specs.declared.Row.the-variants.{None, At}
 use Rattle.summary.specs.declared.RowSummary.{RowSummary}
 use Rattle.summary.specs.declared.RowSummary.the-variants.{Rows, Refused}
 use Rattle.summary.specs.Summary.{summarized}
@@ -37,11 +35,6 @@ askedAnswer u = summaryNumber (summarized (u .n) (u .block))
 
 abbrev pub askedAfter : Asked → ℕ
 askedAfter u = summaryOr (u .room) (summarized (u .n) (u .block))
-
--- a row as C has it: −1 where there is none
-abbrev pub rowNumber : Row → ℤ
-rowNumber None = negsuc 0
-rowNumber (At i) = pos i
 
 -- a block, and a number beside it: its summary, or how many rows were transformed
 pub record Beside : Type 0 where

@@ -2,7 +2,6 @@
 use plane::Plane;
 use quant::AcQuant;
 use quant::DcQuant;
-use summary::Row;
 use summary::RowSummary;
 ghost use mathlib.Core.Path.{_≡_};
 ghost use mathlib.Core.List.{_∷_};
@@ -23,9 +22,9 @@ ghost use Rattle.vbk.specs.Promises.{Printed};
 ghost use Rattle.exports.specs.Told.{Told};
 ghost use Rattle.exports.specs.Write.{requestAnswer, bufferAfter};
 ghost use Rattle.exports.specs.Report.{lentAfter};
-ghost use Rattle.exports.specs.Rows.{askedAnswer, askedAfter, rowNumber, replacedAfter, countingAnswer, countingAfter};
+ghost use Rattle.exports.specs.Rows.{askedAnswer, askedAfter, replacedAfter, countingAnswer, countingAfter};
+ghost use Rattle.rows_told.specs.Rows.{rowNumber};
 ghost use Rattle.exports.specs.Run.{FIGURES, RunTold};
-ghost use Rattle.exports.specs.Inner.{placeOf};
 
 // Numbers that a run tells of itself: depth, width, height, records read, touched count.
 pub const FIGURES: usize = 5;
@@ -101,23 +100,12 @@ pub extern "C" fn bracetwill_row_count(summary: u32) -> u32
     summary::row_count(summary)
 }
 
-// A row as C has it: -1 where there is none.
-fn row_number(row: Row) -> i32
-    requires { ⌜ placeOf row ≤ 31 ⌝ }
-    ensures { λ r. ⌜ r ≡ rowNumber row ⌝ }
-{
-    match row {
-        Row::None => -1,
-        Row::At(i) => i as i32,
-    }
-}
-
 // The first row of a summary.
 #[no_mangle]
 pub extern "C" fn bracetwill_first_row(summary: u32) -> i32
     ensures { λ r. ⌜ r ≡ rowNumber (firstOf (setRows summary)) ⌝ }
 {
-    row_number(summary::first_row(summary))
+    rows_told::row_number(summary::first_row(summary))
 }
 
 // The last row of a summary.
@@ -125,7 +113,7 @@ pub extern "C" fn bracetwill_first_row(summary: u32) -> i32
 pub extern "C" fn bracetwill_last_row(summary: u32) -> i32
     ensures { λ r. ⌜ r ≡ rowNumber (lastOf (setRows summary)) ⌝ }
 {
-    row_number(summary::last_row(summary))
+    rows_told::row_number(summary::last_row(summary))
 }
 
 // One token of a block replaced, with the summary beside it.

@@ -2,5 +2,4 @@ mod Three
 pub mod Table
 mod Exchange
 pub mod Straight
-mod Four
 pub mod Arrays

@@ -23,7 +23,7 @@ use Rattle.idct.specs.Driver.{Input, answerOf, blockAfter, Driven}
 use Rattle.idct.specs.Rows.{dcOnly, rowList, transformed, byRows, Rowed}
 use Rattle.idct.specs.Inner.{shapeOf}
 use Rattle.idct.proofs.Answers.{possible}
-use Rattle.idct.proofs.ByRows.{over-live}
+use Rattle.summary.proofs.ByRows.{over-live}
 
 -- ALL ROWS: the run of the row transform over the rows of a block's own summary is the transform of all rows, because zeros stay zeros
 pub all-rows : (n tx-type : ℕ) (lossless : Bool) (s : List ℤ) → Possible n tx-type lossless → area n ≤ length s

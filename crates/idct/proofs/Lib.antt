@@ -1,4 +1,2 @@
-pub mod Beyond
 pub mod Answers
-pub mod ByRows
 pub mod Counted

@@ -1,69 +1,23 @@
 use answers::Answer;
+pub use blocks::column_dct;
+pub use blocks::rounding_bits;
+pub use blocks::row_dct;
 ghost use mathlib.Core.Path.{_≡_};
-ghost use mathlib.Core.Bool.{_||_};
-ghost use Prim.Native.Nat.{_*_, _≤_};
-ghost use lib.Dec.{eqb};
+ghost use Prim.Native.Nat.{_≤_};
 ghost use Rattle.answers.specs.Answers.{number};
 ghost use lib.ListN.{length};
-ghost use Rattle.answers.specs.Sizes.{side, area};
-ghost use Rattle.blocks.specs.Inverse.{bits};
+ghost use Rattle.answers.specs.Sizes.{area};
 ghost use Rattle.idct.specs.Driver.{Driven};
 ghost use Rattle.idct.specs.Rows.{dcOnly, rowList, Rowed};
 ghost use Rattle.idct.specs.Inner.{shapeOf};
 
-// The drivers' engines: as the specification goes, and the fast one.
-pub mod fast;
-mod reference;
+// The fast engine: it makes the residual, or leaves the block.
+mod fast;
 
 // The answer of a driver and the number of row transforms.
 pub struct DrivenRows {
     pub answer: Answer,
     pub rows: u32,
-}
-
-// Numbers in a line.
-fn side(n: u32) -> usize
-    requires { ⌜ (2 ≤ n) × (n ≤ 5) ⌝ }
-    ensures { λ r. ⌜ (r ≡ side n) × (r ≤ 32) ⌝ }
-{
-    match n {
-        2 => 4,
-        3 => 8,
-        4 => 16,
-        _ => 32,
-    }
-}
-
-// Bits that the columns are rounded by.
-pub fn rounding_bits(n: u32) -> u32
-    requires { ⌜ (2 ≤ n) × (n ≤ 5) ⌝ }
-    ensures { λ r. ⌜ (r ≡ bits n) × (1 ≤ r) × (r ≤ 30) ⌝ }
-{
-    match n {
-        2 => 4,
-        3 => 5,
-        _ => 6,
-    }
-}
-
-// Types 0 and 1 have DCT rows.
-pub fn row_dct(tx_type: u8) -> bool
-    ensures { λ r. ⌜ r ≡ eqb «tx_type» 0 || eqb «tx_type» 1 ⌝ }
-{
-    if tx_type == 0 {
-        return true;
-    }
-    tx_type == 1
-}
-
-// Types 0 and 2 have DCT columns.
-pub fn column_dct(tx_type: u8) -> bool
-    ensures { λ r. ⌜ r ≡ eqb «tx_type» 0 || eqb «tx_type» 2 ⌝ }
-{
-    if tx_type == 0 {
-        return true;
-    }
-    tx_type == 2
 }
 
 // The answer as far as it needs no number of the block, of which there are `count`.
@@ -79,7 +33,7 @@ pub fn shape(count: usize, n: u32, tx_type: u8, lossless: bool) -> Answer
     if answers::bad_tx_type(lossless, n - 2, tx_type) {
         return Answer::TxType;
     }
-    let n0 = side(n);
+    let n0 = answers::side(n);
     if count < n0 * n0 {
         return Answer::Length;
     }
@@ -99,7 +53,7 @@ pub fn inverse_transform_2d_reference(
     if answers::code(a) != 0 {
         return a;
     }
-    let n0 = side(n);
+    let n0 = answers::side(n);
     if answers::any_beyond(block, n0 * n0, answers::COEF_LIMIT) {
         return Answer::Coefficient;
     }
@@ -147,8 +101,8 @@ fn dc_only(block: &[i64], n: u32, tx_type: u8, lossless: bool) -> bool
     if lossless {
         return false;
     }
-    let n0 = side(n);
-    fast::only_dc(block, n0 * n0, tx_type)
+    let n0 = answers::side(n);
+    dc::only_dc(block, n0 * n0, tx_type)
 }
 
 // How many rows of a block that is taken are transformed: the set bits of its summary, and none where only place 0 is live.
@@ -159,10 +113,10 @@ fn row_transforms(block: &[i64], n: u32, tx_type: u8, lossless: bool) -> u32
     if dc_only(block, n, tx_type, lossless) {
         return 0;
     }
-    summary::row_count(summary::scan(block, side(n)))
+    summary::row_count(summary::scan(block, answers::side(n)))
 }
 
-// The same, and the number of row transforms, which is 0 under a refusal.
+// The same, and the number of row transforms, which is 0 under a refusal. It does not call the driver: with one caller that is inlined, for speed.
 pub fn inverse_transform_2d_rows(
     block: &mut [i64],
     n: u32,
@@ -178,14 +132,15 @@ pub fn inverse_transform_2d_rows(
             rows: 0,
         };
     }
-    let rows = row_transforms(block, n, tx_type, lossless);
-    let driven = inverse_transform_2d(block, n, tx_type, lossless);
-    if answers::code(driven) != 0 {
+    let count = answers::area(n);
+    if !dc::within(block, count) {
         return DrivenRows {
-            answer: driven,
+            answer: Answer::Coefficient,
             rows: 0,
         };
     }
+    let rows = row_transforms(block, n, tx_type, lossless);
+    fast::residual(block, n, tx_type, lossless);
     DrivenRows {
         answer: Answer::Done,
         rows: rows,

@@ -83,7 +83,7 @@ fn dct_or_adst(t: &mut [i16; 32], n: u32, use_dct: bool) -> bool
     ensures then { λ r. ⌜ (r ≡ true → now (t .exit) ≡ apply (lossy «use_dct») n (now (t .entry))) ⌝ }
 {
     if use_dct {
-        return narrow_dct::dct_checked(t, n);
+        return narrow_dct_checked::dct_checked(t, n);
     }
     narrow_adst::adst_checked(t, n)
 }
@@ -134,7 +134,7 @@ fn apply4(t: &mut [i16; 32], use_dct: bool, lossless: bool, shift: u32) -> bool
         return narrow::wht_checked(t, shift);
     }
     if use_dct {
-        return narrow_dct::dct_checked(t, 2);
+        return narrow_dct_checked::dct_checked(t, 2);
     }
     narrow_adst::adst_checked(t, 2)
 }

@@ -38,7 +38,7 @@ use Rattle.plane.specs.Plane.{clip, inside, sampleAfter, planeAfter}
 use Rattle.plane.proofs.Row.{inside-yes, inside-is}
 use Rattle.plane.proofs.Block.{after-length, after-at, row-of, column-of, place-of, row-in-plane, off-rows, off-columns, on-block}
 use Rattle.reconstruct.specs.Reconstruct.{largest, badQuantizers, badPlane, badCoefficient, answerOf, residual, added, samplesAfter, Reconstructed}
-use Rattle.reconstruct.proofs.Above.{dequant-abs}
+use Rattle.tokens.proofs.Above.{dequant-abs}
 use Rattle.reconstruct.proofs.Residual.{none-live}
 use Rattle.reconstruct.proofs.Table.{done}
 use Rattle.laws.specs.Lossless.{Coded, Shown, placeIn, Lossless, decoding, Restored, differencesOf}

@@ -33,7 +33,7 @@ use Rattle.vbk_write.specs.Lent.{Lent}
 use Rattle.vbk_write.specs.Promises.{Wrote}
 use Rattle.vbk_write.specs.declared.Written.{Written}
 use Rattle.exports.specs.Told.{Told}
-use Rattle.exports.specs.Rows.{rowNumber}
+use Rattle.rows_told.specs.Rows.{rowNumber}
 use Rattle.exports.specs.Run.{RunTold}
 
 -- two answers with one number, and two values with one definition

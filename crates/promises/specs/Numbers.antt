@@ -14,7 +14,7 @@ use Rattle.blocks.specs.Inverse.{inverse2d}
 use Rattle.fwd_dct.specs.Forward.{forwardDct}
 use Rattle.summary.specs.Summary.{setRows, summaryOf, firstOf, lastOf}
 use Rattle.summary.specs.Replace.{summaryAfter}
-use Rattle.exports.specs.Rows.{rowNumber}
+use Rattle.rows_told.specs.Rows.{rowNumber}
 
 -- a row of the table
 pub record Row : Type 0 where

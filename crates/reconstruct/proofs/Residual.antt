@@ -43,7 +43,7 @@ use Rattle.answers.specs.Sizes.{side, area}
 use Rattle.reconstruct.specs.Reconstruct.{badQuantizers, residual, added}
 use Rattle.reconstruct.specs.Inner.{Accepted}
 use Rattle.reconstruct.proofs.Sixteen.{below-sixteen, few-length, few-at}
-use Rattle.reconstruct.proofs.Sizes.{by-size, area-most, side-most, place-fine}
+use Rattle.tokens.proofs.Sizes.{by-size, area-most, side-most, place-fine}
 
 -- ---- lists that agree in the block have the same residual there
 module _ (n tx-type : ℕ) (lossless : Bool) (s t : List ℤ) (room : 2 ^ n * 2 ^ n ≤ length s) (wide : 2 ^ n * 2 ^ n ≤ length t)

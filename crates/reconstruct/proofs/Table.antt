@@ -19,7 +19,8 @@ use Rattle.plane.specs.Place.{SamplesOf, areaOf}
 use Rattle.blocks.specs.Inner.{Possible}
 use Rattle.answers.specs.Sizes.{area}
 use Rattle.reconstruct.specs.Reconstruct.{Input, largest, badQuantizers, badPlane, badCoefficient, answerOf, added, samplesAfter}
-use Rattle.reconstruct.specs.Inner.{tokenAnswer, shapeOf, Accepted}
+use Rattle.tokens.specs.Inner.{tokenAnswer, shapeOf}
+use Rattle.reconstruct.specs.Inner.{Accepted}
 
 -- y goes on where x gives 0, and is x where it does not
 record Goes (t x y : ℕ) : Type 0 where

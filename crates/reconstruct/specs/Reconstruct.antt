@@ -1,23 +1,23 @@
 -- The reconstruction of a block: its answer, and every sample of the plane afterwards. Specification §8.6.2.
 use mathlib.Core.Path.{_≡_}
-use mathlib.Core.Bool.{Bool, cond, not, _||_}
+use mathlib.Core.Bool.{Bool, cond, not}
 use mathlib.Core.List.{List, [], _∷_}
 use Prim.Native.Nat.{ℕ, _+_, _-_, _*_, _^_}
-use lib.Dec.{ltb, eqb}
+use lib.Dec.{eqb}
 use lib.IntN.{ℤ, pos}
 use lib.ListN.{length, getD}
 use Rattle.answers.specs.declared.Answer.{Answer}
 use Rattle.answers.specs.Answers.{number, lowest}
-use Rattle.answers.specs.Limits.{COEF_LIMIT, SIDE_LIMIT, codeable}
+use Rattle.answers.specs.Limits.{codeable}
 use Rattle.answers.specs.Sizes.{side, area}
-use Rattle.answers.specs.Bad.{badDepth, badSize, badLossless, badTxType, badQuantizer, anyBeyond}
+use Rattle.answers.specs.Bad.{badDepth, badSize, badLossless, badTxType, anyBeyond}
 use Rattle.quant.specs.declared.DcQuant.{DcQuant}
 use Rattle.quant.specs.declared.AcQuant.{AcQuant}
 use Rattle.quant.specs.Places.{dequantAll}
 use Rattle.plane.specs.declared.Plane.{Plane}
-use Rattle.plane.specs.Place.{areaOf}
 use Rattle.plane.specs.Plane.{planeAfter}
 use Rattle.blocks.specs.Inverse.{inverse2d}
+unfoldable pub use Rattle.tokens.specs.Tokens.{badQuantizers, badPlane, badCoefficient}
 
 -- what the call is given
 pub record Input : Type 0 where
@@ -36,20 +36,6 @@ pub record Input : Type 0 where
 -- the largest sample
 abbrev pub largest : ℕ → ℕ
 largest depth = 2 ^ depth - 1
-
--- 5: a quantizer outside its range
-unfoldable pub badQuantizers : DcQuant → AcQuant → Bool
-badQuantizers dc ac = badQuantizer (dc .0) || badQuantizer (ac .0)
-
--- 7: a stride below the width, a stride or a side above its limit, or samples not exactly stride × height
-unfoldable pub badPlane : ℕ → Plane → Bool
-badPlane count p =
-    ltb (p .stride) (p .width)
-    || (ltb SIDE_LIMIT (p .stride) || (ltb SIDE_LIMIT (p .width) || (ltb SIDE_LIMIT (p .height) || not (eqb count (areaOf p)))))
-
--- 9: a coefficient beyond its limit
-unfoldable pub badCoefficient : ℕ → DcQuant → AcQuant → List ℤ → Bool
-badCoefficient size dc ac tokens = anyBeyond COEF_LIMIT (length tokens) (dequantAll size dc ac tokens)
 
 -- the table of answers
 unfoldable pub answerOf : Input → ℕ

@@ -14,7 +14,7 @@ use lib.Seq.{getD-set-same, getD-set-other}
 use Rattle.whole.proofs.Lists.{tabulate-is}
 use Rattle.whole.proofs.Tests.{any-at}
 use Rattle.answers.specs.Limits.{codeable}
-use Rattle.answers.specs.Sizes.{side}
+use Rattle.answers.specs.Sizes.{side, area}
 use Rattle.blocks.specs.Block.{live}
 use Rattle.report.specs.Classes.{CLASSES, shares, one, itself}
 use Rattle.report.specs.Report.{noted}
@@ -205,3 +205,10 @@ side-least (suc zero) h = omega arith
 side-least (suc (suc zero)) h = omega arith
 side-least (suc (suc (suc zero))) h = omega arith
 side-least (suc (suc (suc (suc size)))) h = absurd (omega arith)
+
+pub area-ends : (size : ℕ) → size ≤ 3 → (16 ≤ area (size + 2)) × (area (size + 2) ≤ 1024)
+area-ends zero h = (omega arith, omega arith)
+area-ends (suc zero) h = (omega arith, omega arith)
+area-ends (suc (suc zero)) h = (omega arith, omega arith)
+area-ends (suc (suc (suc zero))) h = (omega arith, omega arith)
+area-ends (suc (suc (suc (suc size)))) h = absurd (omega arith)

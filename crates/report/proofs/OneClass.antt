@@ -3,7 +3,7 @@ use mathlib.Core.Path.{_≡_, refl, sym, ap, _∙_}
 use mathlib.Core.Bool.{Bool, true, false, cond, _&&_, _||_}
 use mathlib.Core.List.{List}
 use mathlib.Core.Logic.{_⊎_, inl, inr}
-use Prim.Native.Nat.{ℕ, zero, suc, min, _+_, _-_, _*_, _≤_, _<_}
+use Prim.Native.Nat.{ℕ, zero, suc, _+_, _-_, _*_, _≤_, _<_}
 use native.Mathlib.Decide.{decLt, ℕ-discrete}
 use native.Mathlib.Nat as NatL
 use native.Mathlib.Numerals.{add-one}
@@ -85,19 +85,6 @@ other-class m c d i l ne = go (inClass d m) refl
     go : (b : Bool) → inClass d m ≡ b → b ≡ false
     go true e = absurd (ne (one-class m c d i e l))
     go false e = refl
-
--- a magnitude of the last class is as good as any other of it
-pub as-capped : (m c : ℕ) → m < 18446744073709551616 → IsClass (min m 67) c → IsClass m c
-as-capped m c u i = go (decLt m 67)
-  where
-    last : IsClass 67 c → 67 ≤ m → IsClass m c
-    last j l =
-        let e : 10 ≡ c = one-class 67 c 10 j (last-class 67 (omega arith)) (omega arith) in
-        rw (sym e) (record { known = omega arith; from = l; below = u })
-
-    go : Dec (m < 67) → IsClass m c
-    go (yes l) = let e : min m 67 ≡ m = omega arith in rw e at i
-    go (no l) = let e : min m 67 ≡ 67 = omega arith in last (rw e at i) (omega arith)
 
 pub zero-class : IsClass 0 0
 zero-class =

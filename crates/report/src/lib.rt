@@ -3,18 +3,20 @@
 use answers::Answer;
 use answers::code;
 use answers::magnitude;
+use blocks::any_live;
 use blocks::any_live_first;
 use plane::Plane;
 use quant::AcQuant;
 use quant::DcQuant;
 use std::num::wrapping_sub_u64;
 ghost use mathlib.Core.Path.{_≡_};
-ghost use mathlib.Core.Bool.{_||_};
-ghost use Prim.Native.Nat.{min, _+_, _*_, _^_, _≤_, _<_};
+ghost use mathlib.Core.Bool.{false, _||_};
+ghost use Prim.Native.Nat.{_+_, _*_, _^_, _≤_, _<_};
 ghost use lib.Dec.{ltb};
 ghost use lib.ListN.{length};
 ghost use Rattle.answers.specs.Answers.{number};
 ghost use Rattle.answers.specs.Sizes.{area};
+ghost use Rattle.blocks.specs.Block.{live};
 ghost use Rattle.reconstruct.specs.Reconstruct.{answerOf};
 ghost use Rattle.report.specs.Classes.{one, itself};
 ghost use Rattle.report.specs.Report.{total, badTotal, badSums, Reported};
@@ -59,22 +61,15 @@ fn classes() -> [u8; 72]
     list
 }
 
-// A magnitude of the last class is as good as any other of it.
-fn capped(m: u64) -> usize
-    ensures { λ r. ⌜ r ≡ min m 67 ⌝ }
-{
-    if m < 67 {
-        return m as usize;
-    }
-    67
-}
-
-// The class of any magnitude: the match, looked up.
+// The class of any magnitude: the match, looked up; the last class, which is rare, by a branch.
 fn class_in(list: &[u8; 72], m: u64) -> usize
     requires { ⌜ Listed 72 (now list) ⌝ }
     ensures { λ r. ⌜ IsClass m r ⌝ }
 {
-    words::count8(list[capped(m)])
+    if m < 67 {
+        return words::count8(list[m as usize]);
+    }
+    10
 }
 
 // Below 2^63 exactly where the value is within the limit; an or and a difference, and no branch.
@@ -132,6 +127,17 @@ fn count_row(
     }
 }
 
+// Whether a row holds anything: four numbers without a branch; of more the first by itself, because a live row mostly begins with one.
+fn live_row(tokens: &[i64], start: usize, n: usize) -> bool
+    requires { ⌜ (1 ≤ n) × (start + n ≤ length (now tokens)) ⌝ }
+    ensures { λ r. ⌜ r ≡ live start n (now (tokens .entry)) ⌝ }
+{
+    if n == 4 {
+        return any_live(tokens, start, n);
+    }
+    any_live_first(tokens, start, n)
+}
+
 // A row of the block; one of zeros as a whole.
 fn count_live_row(
     counts: &mut [u32; 44],
@@ -145,7 +151,7 @@ fn count_live_row(
     requires { ⌜ (size ≤ 3) × (1 ≤ n) × (n ≤ 32) × (start + n ≤ length (now tokens)) × Taken (now tokens) × Room n (now counts) (now sums) × Listed 72 (now list) ⌝ }
     ensures { λ _. ⌜ Noted one size start (start + n) (now (tokens .entry)) (now (counts .entry)) (now (counts .exit)) × Noted itself size start (start + n) (now (tokens .entry)) (now (sums .entry)) (now (sums .exit)) ⌝ }
 {
-    if any_live_first(tokens, start, n) {
+    if live_row(tokens, start, n) {
         count_row(counts, sums, size, tokens, start, n, list);
         return;
     }
@@ -170,14 +176,36 @@ fn count_rows(
     }
 }
 
-// All tokens of a block; of sixteen by literal counts, for speed.
-fn count_tokens(counts: &mut [u32; 44], sums: &mut [u64; 44], size: u32, tokens: &[i64])
-    requires { ⌜ (size ≤ 3) × (length (now tokens) ≡ area (size + 2)) × Taken (now tokens) × Room (area (size + 2)) (now counts) (now sums) ⌝ }
+// A block of zeros but for place 0: that token, and all others as a whole.
+fn count_dc(
+    counts: &mut [u32; 44],
+    sums: &mut [u64; 44],
+    size: usize,
+    tokens: &[i64],
+    others: usize,
+    list: &[u8; 72],
+)
+    requires { ⌜ (size ≤ 3) × (others ≤ 1023) × (1 + others ≤ length (now tokens)) × (live 1 others (now tokens) ≡ false) × Taken (now tokens) × Room (1 + others) (now counts) (now sums) × Listed 72 (now list) ⌝ }
+    ensures { λ _. ⌜ Noted one size 0 (1 + others) (now (tokens .entry)) (now (counts .entry)) (now (counts .exit)) × Noted itself size 0 (1 + others) (now (tokens .entry)) (now (sums .entry)) (now (sums .exit)) ⌝ }
+{
+    count_row(counts, sums, size, tokens, 0, 1, list);
+    let k = size * 11;
+    counts[k] = counts[k] + others as u32;
+}
+
+// All tokens of a block, of sixteen by literal counts, for speed.
+fn count_sized(
+    counts: &mut [u32; 44],
+    sums: &mut [u64; 44],
+    size: u32,
+    tokens: &[i64],
+    list: &[u8; 72],
+)
+    requires { ⌜ (size ≤ 3) × (length (now tokens) ≡ area (size + 2)) × Taken (now tokens) × Room (area (size + 2)) (now counts) (now sums) × Listed 72 (now list) ⌝ }
     ensures { λ _. ⌜ Noted one size 0 (length (now (tokens .entry))) (now (tokens .entry)) (now (counts .entry)) (now (counts .exit)) × Noted itself size 0 (length (now (tokens .entry))) (now (tokens .entry)) (now (sums .entry)) (now (sums .exit)) ⌝ }
 {
-    let list = classes();
     if size == 0 {
-        count_rows(counts, sums, 0, tokens, 4, &list);
+        count_rows(counts, sums, 0, tokens, 4, list);
         return;
     }
     count_rows(
@@ -186,8 +214,22 @@ fn count_tokens(counts: &mut [u32; 44], sums: &mut [u64; 44], size: u32, tokens:
         size as usize,
         tokens,
         answers::side(size + 2),
-        &list,
+        list,
     );
+}
+
+// All tokens of a block; where place 0 alone is live, without its rows.
+fn count_tokens(counts: &mut [u32; 44], sums: &mut [u64; 44], size: u32, tokens: &[i64])
+    requires { ⌜ (size ≤ 3) × (length (now tokens) ≡ area (size + 2)) × Taken (now tokens) × Room (area (size + 2)) (now counts) (now sums) ⌝ }
+    ensures { λ _. ⌜ Noted one size 0 (length (now (tokens .entry))) (now (tokens .entry)) (now (counts .entry)) (now (counts .exit)) × Noted itself size 0 (length (now (tokens .entry))) (now (tokens .entry)) (now (sums .entry)) (now (sums .exit)) ⌝ }
+{
+    let list = classes();
+    let others = tokens.len() - 1;
+    if any_live_first(tokens, 1, others) {
+        count_sized(counts, sums, size, tokens, &list);
+        return;
+    }
+    count_dc(counts, sums, size as usize, tokens, others, &list);
 }
 
 // The answer of a block whose report is refused. Beside the plane the block has the answer that it has anywhere, and writes nothing.

@@ -3,3 +3,4 @@ pub mod Places
 pub mod Rows
 pub mod Bit
 pub mod Replace
+pub mod ByRows

@@ -5,13 +5,11 @@ use Prim.Native.Nat.{ℕ, zero, suc, _+_}
 use lib.Dec.{ltb, eqb}
 use lib.IntN.{ℤ, pos}
 use lib.ListN.{length}
-use Rattle.answers.specs.Sizes.{side}
 use Rattle.plane.specs.declared.Plane.{Plane}
-use Rattle.plane.specs.Place.{written}
-use Rattle.vbk_read.specs.declared.Head.{Head}
 use Rattle.vbk_read.specs.Header.{versionOf, depthOf, widthOf, heightOf, samplesOf, firstRecord, headerAnswer}
 use Rattle.vbk_read.specs.Records.{sizeAt, losslessAt, headAt, tokensAt, found, endAnswer, ends, readOn}
 use Rattle.vbk_text.specs.Text.{Outcome, refused, ran}
+unfoldable pub use Rattle.touched.specs.Touched.{touchedBy}
 
 -- an answer's number, and the samples afterwards
 pub record Rebuilt : Type 0 where
@@ -40,10 +38,6 @@ andThen answer touched rest =
 -- no file has more records: the first one stands at byte 12 or later, and all but the last take 75 bytes or more
 abbrev pub RECORD_LIMIT : ℕ
 RECORD_LIMIT = 874
-
--- the touched count of a record in a plane: the samples written where its answer is 0
-unfoldable pub touchedBy : ℕ → Plane → Head → ℕ
-touchedBy answer p head = cond (eqb answer 0) (written p (head .x) (head .y) (side (head .size + 2))) 0
 
 -- the plane of a file: its lines have no padding
 abbrev pub planeOf : List ℕ → Plane

@@ -8,7 +8,7 @@ ghost use Rattle.answers.specs.Answers.{number};
 ghost use Rattle.vbk_read.specs.Header.{planeArea, headerAnswer, fieldsOf, noFields};
 ghost use Rattle.vbk_read.specs.Records.{sizeAt, headAt, nextAt, Recorded};
 ghost use Rattle.answers.specs.Limits.{FILE_LIMIT};
-ghost use Rattle.vbk.specs.Replay.{RECORD_LIMIT, touchedBy, recordAt, records};
+ghost use Rattle.vbk.specs.Replay.{RECORD_LIMIT, recordAt, records};
 ghost use Rattle.vbk.specs.Filled.{reconstruction};
 ghost use Rattle.vbk.specs.Promises.{runOf, Replayed, Printed};
 ghost use Rattle.vbk.specs.Inner.{reconstructAt, Stepped, Ran, outcomeOf};
@@ -18,6 +18,7 @@ use answers::Answer;
 use plane::Plane;
 use quant::AcQuant;
 use quant::DcQuant;
+pub use touched::touched_by;
 use vbk_read::Cursor;
 use vbk_read::Fields;
 use vbk_read::Head;
@@ -31,20 +32,6 @@ pub fn number8(a: Answer) -> u8
     ensures { λ r. ⌜ r ≡ number a ⌝ }
 {
     answers::code(a) as u8
-}
-
-// The touched count: the samples written, for an answer 0.
-pub fn touched_by(answer: u8, fields: Fields, head: Head) -> usize
-    requires { ⌜ head .size ≤ 3 ⌝ }
-    ensures { λ r. ⌜ r ≡ touchedBy answer (record { width = fields .width; height = fields .height; stride = fields .width }) head ⌝ }
-{
-    if answer != 0 {
-        return 0;
-    }
-    let n0 = answers::side(head.size as u32 + 2);
-    let rows = plane::cut(fields.height as usize, head.y as usize, n0);
-    let cols = plane::cut(fields.width as usize, head.x as usize, n0);
-    rows * cols
 }
 
 pub fn quantizer(q: u16) -> i32

@@ -2,7 +2,7 @@ use Prim.Native.Nat.{_-_}
 use native.Mathlib.Omega.{arith}
 use borrow.Author.Needs.{needs}
 use lib.ListN.{length}
-use Rattle.clip_parse.specs.Inner.{Held}
+use Rattle.clip_state.specs.Inner.{Held}
 use Rattle.clip_parse.proofs.take_rows.Statement.{statement}
 use Rattle.clip_parse.proofs.take_rows.Tie as tie
 

@@ -1,7 +1,7 @@
 use Prim.Native.Nat.{_-_, _≤_}
 use borrow.Author.Needs.{needs}
 use lib.ListN.{length}
-use Rattle.clip_parse.specs.Inner.{Held}
+use Rattle.clip_state.specs.Inner.{Held}
 use Rattle.clip_parse.proofs.take_tokens.Statement.{statement}
 use Rattle.clip_parse.proofs.take_tokens.Tie as tie
 

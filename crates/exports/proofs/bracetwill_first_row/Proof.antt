@@ -4,8 +4,8 @@ use mir.Syntax.{w32}
 use mir.ValLaws.{toZ-ofZ}
 use borrow.Author.Needs.{needs}
 use Rattle.summary.specs.declared.Row.{Row}
-use Rattle.exports.specs.Rows.{rowNumber}
-use Rattle.exports.specs.Inner.{placeOf}
+use Rattle.rows_told.specs.Rows.{rowNumber}
+use Rattle.rows_told.specs.Inner.{placeOf}
 use Rattle.exports.proofs.Rows.{first-below}
 use Rattle.exports.proofs.bracetwill_first_row.Statement.{statement}
 use Rattle.exports.proofs.bracetwill_first_row.Tie as tie

@@ -4,7 +4,7 @@ use native.Mathlib.Nat.{mul-le-mul}
 use native.Mathlib.Omega.{arith}
 use borrow.Author.Needs.{needs}
 use Rattle.idct.specs.Rows.{dcOnly}
-use Rattle.idct.proofs.Answers.{area-more}
+use Rattle.dc.proofs.Alone.{area-more}
 use Rattle.idct.proofs.dc_only.Statement.{statement}
 use Rattle.idct.proofs.dc_only.Tie as tie
 

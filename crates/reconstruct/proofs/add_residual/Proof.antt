@@ -10,7 +10,7 @@ use mir.ValLaws.{toZ-ofZ}
 use borrow.Author.Needs.{needs}
 use Rattle.answers.specs.Sizes.{area}
 use Rattle.reconstruct.specs.Inner.{Accepted}
-use Rattle.reconstruct.proofs.Sizes.{dc-fine}
+use Rattle.tokens.proofs.Sizes.{dc-fine}
 use Rattle.reconstruct.proofs.Residual.{size-most, some-token, not-lossless, lossy-taken, lossy-added, flat-added, first-within}
 use Rattle.reconstruct.proofs.add_residual.Statement.{statement}
 use Rattle.reconstruct.proofs.add_residual.Tie as tie

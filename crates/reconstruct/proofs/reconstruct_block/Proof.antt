@@ -4,7 +4,7 @@ use Prim.Native.Nat.{ℕ}
 use lib.ListN.{length}
 use borrow.Author.Needs.{needs}
 use Rattle.reconstruct.specs.Reconstruct.{Input, answerOf, largest}
-use Rattle.reconstruct.specs.Inner.{shapeOf, tokenAnswer}
+use Rattle.tokens.specs.Inner.{shapeOf, tokenAnswer}
 use Rattle.reconstruct.proofs.Table.{Shaped, shaped, shape-stops, shape-passes, accepted, refused, done}
 use Rattle.reconstruct.proofs.reconstruct_block.Statement.{statement}
 use Rattle.reconstruct.proofs.reconstruct_block.Tie as tie

@@ -14,7 +14,7 @@ use Rattle.quant.specs.Token.{dequant}
 use Rattle.blocks.specs.Inner.{dcValue}
 use Rattle.plane.proofs.Block.{same-residuals}
 use borrow.Author.Needs.{needs}
-use Rattle.reconstruct.proofs.Sizes.{side-most, area-most, in-block}
+use Rattle.tokens.proofs.Sizes.{side-most, area-most, in-block}
 use Rattle.reconstruct.proofs.Residual.{dcValue-within, flat-length, flat-number, flat-within}
 use Rattle.reconstruct.proofs.reconstruct_flat.Statement.{statement}
 use Rattle.reconstruct.proofs.reconstruct_flat.Tie as tie

@@ -12,7 +12,7 @@ use Rattle.blocks.specs.Inverse.{inverse2d}
 use Rattle.blocks.proofs.Inverse.{inverse2d-length}
 use Rattle.answers.specs.Sizes.{side, area}
 use Rattle.reconstruct.specs.Reconstruct.{added}
-use Rattle.reconstruct.proofs.Sizes.{area-most, side-most, in-block}
+use Rattle.tokens.proofs.Sizes.{area-most, side-most, in-block}
 use Rattle.reconstruct.proofs.Residual.{size-most, inFront, in-front, block-length, block-room, block-within, residual-within, residual-at}
 use Rattle.reconstruct.proofs.reconstruct_n.Statement.{statement}
 use Rattle.reconstruct.proofs.reconstruct_n.Tie as tie

@@ -14,7 +14,7 @@ returns-2 : tie.Need-returns-2
 returns-2 c =
     let s = c .before .before .before in
     let a = s .args in
-    let z = dead (a .start) (a .n) (a .tokens .now) (sym (c .before .before .any-live-first .ensures) ∙ c .before .if1 .left) in
+    let z = dead (a .start) (a .n) (a .tokens .now) (sym (c .before .before .live-row .ensures) ∙ c .before .if1 .left) in
     (zeros-counted (a .size) (a .start) (a .n) (a .tokens .now) z (a .counts .now), zeros-summed (a .size) (a .start) (a .n) (a .tokens .now) z (a .sums .now))
 
 pub count-live-row-spec : {M : Type 1} → statement M

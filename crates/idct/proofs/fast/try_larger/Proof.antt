@@ -12,7 +12,8 @@ use Rattle.answers.specs.Bad.{anyBeyond}
 use Rattle.answers.specs.Limits.{COEF_LIMIT}
 use Rattle.answers.specs.Sizes.{area}
 use Rattle.idct.specs.Driver.{Input}
-use Rattle.idct.proofs.Answers.{made, left, in-range, Alone, alone, area-some, area-more, dc-beyond, dc-written}
+use Rattle.dc.proofs.Alone.{Alone, alone, area-some, area-more, dc-beyond, dc-written}
+use Rattle.idct.proofs.Answers.{made, left, in-range}
 use Rattle.idct.proofs.fast.try_larger.Statement.{statement}
 use Rattle.idct.proofs.fast.try_larger.Tie as tie
 

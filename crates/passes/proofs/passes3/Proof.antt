@@ -1,0 +1,42 @@
+use mathlib.Core.Path.{_≡_}
+use Prim.Native.Nat.{_≤_}
+use native.Mathlib.Omega.{arith}
+use borrow.Author.Needs.{needs}
+use Rattle.blocks.specs.Block.{rows}
+use Rattle.blocks.specs.Inverse.{apply, lossy, rounding}
+use Rattle.blocks.proofs.Passes.{small-valid}
+use Rattle.blocks.proofs.Inverse.{after-rows, both-passes}
+use Rattle.summary.proofs.ByRows.{own-pass}
+use Rattle.passes.proofs.passes3.Statement.{statement}
+use Rattle.passes.proofs.passes3.Tie as tie
+
+-- all rows are done
+all : (c : tie.After-rows3) → c .rows3 .last .0 ≡ rows (apply (lossy (c .before .row-dct .result)) 3) 8 (c .before .before .before .before .before .args .block .now)
+all c =
+    let s = c .before .before .before .before .before in
+    let d = c .before .row-dct .result in
+    own-pass (lossy d) 3 (omega arith) (omega arith) (small-valid 2 d 3 (omega arith) (omega arith)) (s .args .block .now) (s .pre .0) (c .before .before .scan .ensures) (c .rows3 .ensures)
+
+columns3-requires : tie.Need-columns3-requires
+columns3-requires c κs =
+    let s = c .before .before .before .before .before .before .before .before in
+    let d = c .before .before .before .before .row-dct .result in
+    after-rows (lossy d) 3 (omega arith) (omega arith) (small-valid 2 d 3 (omega arith) (omega arith)) _ _ (s .pre .0) (s .pre .1) (all (c .before .before .before))
+
+returns : tie.Need-returns
+unfolding rounding
+returns c =
+    let s = c .before .before .before .before .before .before .before .before .before .before in
+    both-passes 3 _ _ (s .args .block .now) _ (rw (c .before .before .before .before .before .before .row-dct .ensures) at (all (c .before .before .before .before .before))) (rw (c .before .before .column-dct .ensures) at (c .before .columns3 .ensures))
+
+pub passes3-spec : {M : Type 1} → statement M
+passes3-spec =
+    tie.close
+    (tie.spec
+    (λ c κs. search needs)
+    (λ c κs. search needs)
+    (λ c κs. search needs)
+    (λ c κs. search needs)
+    columns3-requires
+    (λ c. search needs)
+    returns)

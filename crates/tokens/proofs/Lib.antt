@@ -1,0 +1,3 @@
+pub mod Sizes
+mod Bound
+pub mod Above
