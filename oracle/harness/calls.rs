@@ -40,6 +40,7 @@ calls best SEED COUNT   print calls of the quantizer with the tokens that trying
 calls compare SEED COUNT DIR SIDE..   generated cases to each side; what is found goes to DIR
 calls list FILE DIR SIDE..            a list as it stands to each side
 calls linked SEED COUNT DIR [KIND]    generated cases to our library in this process (only where it is linked: target/oracle/*/linked)
+calls near SEED COUNT DIR [KIND]      the same on blocks at the edges of 16 bits
 a SIDE is --calls NAME WORD.. --end (a command that checks lines) or --blockrun NAME WORD.. --end";
 
 /// Prints one call with its outcome, unless the line would be too long; answers whether it did.
@@ -186,7 +187,9 @@ fn main() {
             std::process::exit(compare::run(seed, count, dir, &args[4..]))
         }
         #[cfg(linked)]
-        Some("linked") => std::process::exit(linked::run(number(&args, 1), number(&args, 2), word(&args, 3), kind(&args, 4))),
+        Some(way @ ("linked" | "near")) => {
+            std::process::exit(linked::run(number(&args, 1), number(&args, 2), word(&args, 3), kind(&args, 4), way == "near"))
+        }
         _ => misused(),
     }
 }

@@ -388,6 +388,56 @@ fn engine32(r: &mut Rng) -> Call {
     driver_call(37, n, tx_type, lossless, block)
 }
 
+/// The sum of magnitudes up to which blocks go by 16-bit lines without a test.
+const FEW: i64 = 31_883;
+
+/// A block of 8 by 8 or more whose coefficients' magnitudes sum to about FEW: to FEW itself and a few around it where the quantizers let them.
+fn few(r: &mut Rng) -> Recon {
+    let mut c = loop {
+        let c = good_recon(r);
+        if c.size > 0 {
+            break c;
+        }
+    };
+    let halved = 1 + i64::from(c.size == 3);
+    (c.dc, c.ac) = if r.once_in(2) { (halved as i32, halved as i32) } else { (r.range(1, 300) as i32, r.range(1, 300) as i32) };
+    c.tokens.iter_mut().for_each(|t| *t = 0);
+    let mut left = FEW + r.range(-3, 3);
+    let places = c.tokens.len() as i64;
+    let most = r.pick(&[8, places - 1]);
+    let live = r.range(2, most);
+    for i in 0..live + 8 {
+        let k = r.below(places as u64) as usize;
+        if c.tokens[k] != 0 {
+            continue;
+        }
+        let q = i64::from(if k == 0 { c.dc } else { c.ac });
+        let part = if i < live { r.range(0, 2 * left / (live - i)) } else { left };
+        let t = (part.clamp(0, left) * halved / q).min(16_450);
+        left -= t * q / halved;
+        c.tokens[k] = r.pick(&[t, -t]);
+    }
+    c
+}
+
+/// A call at an edge of what 16 bits hold: one side of the 32-bit engine's condition, or magnitudes that sum to about FEW, there and in reconstruction.
+pub fn near(r: &mut Rng) -> Call {
+    match r.below(4) {
+        0..=1 => {
+            let (n, tx_type, lossless) = kind_of_block(r);
+            let (inside, outside, _) = edge(r, n, tx_type, lossless);
+            driver_call(37, n, tx_type, lossless, if r.once_in(2) { inside } else { outside })
+        }
+        2 => few(r).call(),
+        _ => {
+            let c = few(r);
+            let halved = 1 + i64::from(c.size == 3);
+            let block = c.tokens.iter().enumerate().map(|(k, t)| t * i64::from(if k == 0 { c.dc } else { c.ac }) / halved).collect();
+            driver_call(37, c.size + 2, c.tx_type, false, block)
+        }
+    }
+}
+
 /// A call that 18 refuses, where `others` do not come before it.
 fn refused_engine32(r: &mut Rng, wanted: &[u8]) -> Call {
     let others: Vec<u8> = wanted.iter().copied().filter(|a| *a != 18).collect();

@@ -389,10 +389,10 @@ fn planted_check(seed: u64) -> Result<u64, String> {
     Ok(found)
 }
 
-/// COUNT random calls of the exported kinds beside the systematic ones, and COUNT / 100 files of each sort.
-pub fn run(seed: u64, count: u64, dir: &str, fault: Option<u32>) -> i32 {
+/// COUNT random calls of the exported kinds beside the systematic ones, and COUNT / 100 files of each sort; or COUNT calls at the edges of 16 bits.
+pub fn run(seed: u64, count: u64, dir: &str, fault: Option<u32>, near: bool) -> i32 {
     std::fs::create_dir_all(dir).expect("the folder");
-    println!("seed {seed}, {count} random calls after the systematic ones, in one process");
+    println!("seed {seed}, {count} {}, in one process", if near { "calls at the edges of 16 bits" } else { "random calls after the systematic ones" });
     match planted_check(seed) {
         Ok(found) => println!("our library: {found} changed outcomes, all found"),
         Err(e) => {
@@ -440,14 +440,16 @@ pub fn run(seed: u64, count: u64, dir: &str, fault: Option<u32>) -> i32 {
             }
         }
     };
-    cases::systematic(&mut r, &mut |c| call(c, &mut stopped));
+    if !near {
+        cases::systematic(&mut r, &mut |c| call(c, &mut stopped));
+    }
     let mut random = 0;
     while random < count && !stopped {
-        let c = cases::random(&mut r);
+        let c = if near { cases::near(&mut r) } else { cases::random(&mut r) };
         random += u64::from(KINDS.contains(&c.kind));
         call(c, &mut stopped);
     }
-    if !stopped {
+    if !stopped && !near {
         every_file(seed, count / 100, &mut |f| {
             if !stopped {
                 each(&files::as_call(&f), &mut stopped);
@@ -458,7 +460,7 @@ pub fn run(seed: u64, count: u64, dir: &str, fault: Option<u32>) -> i32 {
         });
     }
     progress_end();
-    for (kind, c) in KINDS.iter().zip(&counts) {
+    for (kind, c) in KINDS.iter().zip(&counts).filter(|(_, c)| c.calls > 0 || !near) {
         let name = line::shape(*kind).expect("a kind").name;
         let done = match kind {
             22 | 31 => format!(" ({} answered 0, {} of them in padded lines)", c.done, c.padded),

@@ -18,7 +18,7 @@ pub struct Plane {
 }
 
 // The place of the sample of a row and column.
-fn place(plane: Plane, row: usize, column: usize) -> usize
+pub fn place(plane: Plane, row: usize, column: usize) -> usize
     requires { ⌜ (plane .stride ≤ SIDE_LIMIT) × (row ≤ SIDE_LIMIT) × (column ≤ SIDE_LIMIT) ⌝ }
     ensures { λ r. ⌜ r ≡ placeOf plane row column ⌝ }
 {
@@ -49,7 +49,7 @@ fn not_below_0(v: i64) -> i64
 }
 
 // A sample and its residual, clipped to 0 .. top.
-fn clip(sample: u16, residual: i64, top: u16) -> u16
+pub fn clip(sample: u16, residual: i64, top: u16) -> u16
     requires { ⌜ Within (2 ^ 62) residual ⌝ }
     ensures { λ r. ⌜ r ≡ clip top (pos sample +ℤ residual) ⌝ }
 {

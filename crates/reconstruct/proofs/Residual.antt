@@ -40,6 +40,7 @@ use Rattle.blocks.proofs.Live.{dead-at}
 use Rattle.blocks.proofs.Blocks.{block-ext, rows-at, anew-length, anew-at, anew-past}
 use Rattle.blocks.proofs.Inverse.{inverse2d-length, inverse2d-at, inverse2d-past, inverse2d-within, dc-only}
 use Rattle.answers.specs.Sizes.{side, area}
+use Rattle.residual16.specs.Inner.{coefsOf}
 use Rattle.reconstruct.specs.Reconstruct.{badQuantizers, residual, added}
 use Rattle.reconstruct.specs.Inner.{Accepted}
 use Rattle.reconstruct.proofs.Sixteen.{below-sixteen, few-length, few-at}
@@ -326,3 +327,12 @@ unfolding dequantAll quantizerAt
 first-within size dc ac tx-type lossless tokens a =
     let h : 0 < length tokens = rw (a .all) (some-token size) in
     rw (getD-tabulate (λ k. dequant size (quantizerAt dc ac k) (getD tokens k (pos 0))) (length tokens) 0 (pos 0) h) at (a .coefs 0 h)
+
+-- the residual of the quick way, which stands in front of zeros, is the block's
+pub quick-added : (p : Plane) (top x y size : ℕ) (dc : DcQuant) (ac : AcQuant) (tx-type : ℕ) (tokens : List ℤ) (samples : List ℕ) → SamplesOf p samples
+    → Accepted size dc ac tx-type false tokens
+    → planeAfter p top x y (side (size + 2)) (λ i j. getD (inverse2d (size + 2) tx-type false (coefsOf size dc ac tokens)) (i * side (size + 2) + j) (pos 0)) samples
+    ≡ added p top x y size dc ac tx-type false tokens samples
+unfolding added inFront coefsOf
+quick-added p top x y size dc ac tx-type tokens samples s a =
+    same-residuals p samples s top x y (side (size + 2)) _ _ (residual-at size dc ac tx-type false tokens a)

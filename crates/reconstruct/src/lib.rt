@@ -22,7 +22,8 @@ ghost use Rattle.plane.specs.Plane.{planeAfter};
 ghost use Rattle.blocks.specs.Block.{live, onlyDc};
 ghost use Rattle.blocks.specs.Inner.{FirstWithin, dcValue};
 ghost use Rattle.blocks.specs.Inverse.{inverse2d};
-ghost use Rattle.reconstruct.specs.Inner.{Accepted};
+ghost use Rattle.residual16.specs.Inner.{Lent};
+ghost use Rattle.reconstruct.specs.Inner.{Accepted, Tried};
 ghost use Rattle.answers.specs.Sizes.{side, area};
 ghost use Rattle.reconstruct.specs.Reconstruct.{largest, added, Reconstructed};
 
@@ -296,6 +297,33 @@ fn add_residual(
     );
 }
 
+// Whether the block is done by 16-bit lines, which need no look at the limits: no number on the way is near to one. Else nothing is changed.
+fn quick(
+    samples: &mut [u16],
+    plane: Plane,
+    x: usize,
+    y: usize,
+    size: u32,
+    tokens: &[i64],
+    dc_quant: DcQuant,
+    ac_quant: AcQuant,
+    tx_type: u8,
+    top: u16,
+) -> bool
+    requires { ⌜ SamplesOf plane (now samples) × (1 ≤ size → Lent size «dc_quant» «ac_quant» «tx_type» (now tokens)) ⌝ }
+    ensures { λ r. ⌜ Tried plane top x y size «dc_quant» «ac_quant» «tx_type» (now (tokens .entry)) (now (samples .entry)) r (now (samples .exit)) ⌝ }
+{
+    if size == 0 {
+        return false;
+    }
+    let mut z = [0i16; 1024];
+    if !residual16::residual(&mut z, tokens, size, dc_quant, ac_quant, tx_type) {
+        return false;
+    }
+    plane16::add_back(samples, plane, x, y, &z, side(size + 2), top);
+    true
+}
+
 // The block's residual added to the samples at (x, y), as far as the plane has them. Refused, nothing is changed.
 pub fn reconstruct_block(
     samples: &mut [u16],
@@ -326,11 +354,25 @@ pub fn reconstruct_block(
     if code(shape) != 0 {
         return shape;
     }
+    let top = largest(bit_depth);
+    if quick(
+        samples,
+        plane,
+        x,
+        y,
+        tx_sz,
+        tokens,
+        dc_quant,
+        ac_quant,
+        tx_type,
+        top,
+    ) {
+        return shape;
+    }
     let answer = tokens::check_tokens(tokens, tx_sz, dc_quant, ac_quant, bit_depth);
     if code(answer) != 0 {
         return answer;
     }
-    let top = largest(bit_depth);
     add_residual(
         samples,
         plane,

@@ -1,10 +1,18 @@
 -- `reconstruct::reconstruct_block` meets its contract.
-use mathlib.Core.Path.{_≡_, refl, sym, ap, _∙_}
-use Prim.Native.Nat.{ℕ}
+use mathlib.Core.Path.{_≡_, sym, ap, _∙_}
+use mathlib.Core.Bool.{Bool, true, false}
+use mathlib.Core.List.{List}
+use Prim.Native.Nat.{ℕ, _+_, _≤_}
+use native.Mathlib.Omega.{arith}
 use lib.ListN.{length}
 use borrow.Author.Needs.{needs}
-use Rattle.reconstruct.specs.Reconstruct.{Input, answerOf, largest}
-use Rattle.tokens.specs.Inner.{shapeOf, tokenAnswer}
+use Rattle.residual16.specs.Inner.{Lent}
+use Rattle.reconstruct.specs.Reconstruct.{Input, answerOf, largest, added, samplesAfter}
+use Rattle.reconstruct.specs.Inner.{Tried}
+use Rattle.tokens.specs.Inner.{SmallTokens, shapeOf, tokenAnswer}
+use Rattle.tokens.proofs.Sizes.{dc-fine, ac-fine}
+use Rattle.tokens.proofs.Above.{small-fine}
+use Rattle.reconstruct.proofs.Residual.{not-lossless, lossy-taken, lossy-added, quick-added}
 use Rattle.reconstruct.proofs.Table.{Shaped, shaped, shape-stops, shape-passes, accepted, refused, done}
 use Rattle.reconstruct.proofs.reconstruct_block.Statement.{statement}
 use Rattle.reconstruct.proofs.reconstruct_block.Tie as tie
@@ -33,9 +41,52 @@ shape u = shapeOf (length (u .samples)) (u .plane) (u .size) (length (u .tokens)
 first : (c : tie.Else1) → shape (input (c .before .before .before .before)) ≡ 0
 first c = sym (c .before .code .ensures ∙ c .before .before .check .ensures) ∙ c .if1 .left
 
--- and the second is the answer
-second : (c : tie.After-check-tokens) → answerOf (input (c .before .before .before .before .before)) ≡ tokenAnswer (c .before .before .before .before .before .args .tx-sz) (c .before .before .before .before .before .args .dc-quant) (c .before .before .before .before .before .args .ac-quant) (c .before .before .before .before .before .args .bit-depth) (c .before .before .before .before .before .args .tokens .now)
-second c = shape-passes (input (c .before .before .before .before .before)) (first (c .before))
+-- the way back from behind the quick way
+abbrev else1 : tie.Else2 → tie.Else1
+else1 c = c .before .before .before .before .before .before
+
+abbrev start : tie.Else1 → tie.Start
+start c = c .before .before .before .before
+
+-- above 4 by 4 nothing is lossless
+lossy : (u : Input) → Shaped u → 1 ≤ u .size → u .lossless ≡ false
+lossy u s h = not-lossless (u .size) (u .tx-type) (u .lossless) (s .possible-ok) (λ e. absurd (omega arith))
+
+lent : (u : Input) → Shaped u → 1 ≤ u .size → Lent (u .size) (u .dc) (u .ac) (u .tx-type) (u .tokens)
+lent u s h =
+    record {
+      larger = h;
+      possible = rw (lossy u s h) at (s .possible-ok);
+      all = s .length-ok;
+      dc-ok = dc-fine (u .dc) (u .ac) (s .quantizers-ok);
+      ac-ok = ac-fine (u .dc) (u .ac) (s .quantizers-ok);
+    }
+
+-- where the quick way serves, its samples are those of the answer 0
+quick-zero : (u : Input) → Shaped u → SmallTokens (u .tokens) → tokenAnswer (u .size) (u .dc) (u .ac) (u .depth) (u .tokens) ≡ 0
+quick-zero u s t = sym (small-fine (u .size) (u .depth) (u .dc) (u .ac) (u .tokens) (s .depth-ok) (s .quantizers-ok) t)
+
+quick-done : (u : Input) (r : Bool) (after : List ℕ) → shape u ≡ 0 → r ≡ true
+    → Tried (u .plane) (largest (u .depth)) (u .x) (u .y) (u .size) (u .dc) (u .ac) (u .tx-type) (u .tokens) (u .samples) r after → (answerOf u ≡ 0) × (after ≡ samplesAfter u)
+quick-done u r after f e t =
+    let s = shaped u f in
+    let z = quick-zero u s (t .small e) in
+    let l = lossy u s (t .larger e) in
+    let w = shape-passes u f ∙ z in (
+      w,
+      t .written e
+          ∙ quick-added (u .plane) (largest (u .depth)) (u .x) (u .y) (u .size) (u .dc) (u .ac) (u .tx-type) (u .tokens) (u .samples) (s .samples-ok) (lossy-taken (u .size) (u .dc) (u .ac) (u .tx-type) (u .lossless) (u .tokens) l (accepted u s z))
+          ∙ lossy-added (u .plane) (largest (u .depth)) (u .x) (u .y) (u .size) (u .dc) (u .ac) (u .tx-type) (u .lossless) (u .tokens) (u .samples) l
+          ∙ done u w,
+    )
+
+-- and the second part is the answer
+second : (c : tie.After-check-tokens) → let s = start (else1 (c .before)) in answerOf (input s) ≡ tokenAnswer (s .args .tx-sz) (s .args .dc-quant) (s .args .ac-quant) (s .args .bit-depth) (s .args .tokens .now)
+second c = shape-passes (input (start (else1 (c .before)))) (first (else1 (c .before)))
+
+-- else the samples are as they were
+kept : (c : tie.Else2) → c .before .before .before .quick .last .0 ≡ start (else1 c) .args .samples .now
+kept c = c .before .before .before .quick .ensures .kept (c .if2 .left)
 
 returns : tie.Need-returns
 returns c =
@@ -46,30 +97,42 @@ returns c =
 
 returns-2 : tie.Need-returns-2
 returns-2 c =
-    let t = c .before .before in
-    let u = input (t .before .before .before .before .before) in
-    let k = t .check-tokens .ensures ∙ sym (second t) in
-    record { answered = k; written = refused u (λ e. c .if2 .taken (c .before .code2 .ensures ∙ k ∙ e)) }
-
--- the tokens are taken
-zero : (c : tie.Else2) → tokenAnswer (c .before .before .before .before .before .before .before .args .tx-sz) (c .before .before .before .before .before .before .before .args .dc-quant) (c .before .before .before .before .before .before .before .args .ac-quant) (c .before .before .before .before .before .before .before .args .bit-depth) (c .before .before .before .before .before .before .before .args .tokens .now) ≡ 0
-zero c = sym (c .before .code2 .ensures ∙ c .before .before .check-tokens .ensures) ∙ c .if2 .left
-
-add-residual-requires : tie.Need-add-residual-requires
-add-residual-requires c κs =
-    let e = c .before .before in
-    let u = input (e .before .before .before .before .before .before .before) in
-    let s = shaped u (first (e .before .before .before)) in
-    (s .samples-ok, accepted u s (zero e))
+    let q = c .before .before .before in
+    let e = q .before .before .before in
+    let u = input (start e) in
+    let d = quick-done u (q .quick .result) (q .quick .last .0) (first e) (c .if2 .taken) (rw (q .before .before .largest .ensures) at (q .quick .ensures)) in
+    record { answered = e .before .before .check .ensures ∙ first e ∙ sym (d .0); written = d .1 }
 
 returns-3 : tie.Need-returns-3
 returns-3 c =
-    let e = c .before .before .before .before .before in
-    let u = input (e .before .before .before .before .before .before .before) in
-    let z = second (e .before .before) ∙ zero e in
+    let t = c .before .before in
+    let u = input (start (else1 (t .before))) in
+    let k = t .check-tokens .ensures ∙ sym (second t) in
+    record { answered = k; written = kept (t .before) ∙ refused u (λ e. c .if3 .taken (c .before .code2 .ensures ∙ k ∙ e)) }
+
+-- the tokens are taken
+zero : (c : tie.Else3) → let s = start (else1 (c .before .before .before)) in tokenAnswer (s .args .tx-sz) (s .args .dc-quant) (s .args .ac-quant) (s .args .bit-depth) (s .args .tokens .now) ≡ 0
+zero c = sym (c .before .code2 .ensures ∙ c .before .before .check-tokens .ensures) ∙ c .if3 .left
+
+add-residual-requires : tie.Need-add-residual-requires
+add-residual-requires c κs =
+    let e = c .before in
+    let d = e .before .before .before in
+    let u = input (start (else1 d)) in
+    let s = shaped u (first (else1 d)) in
+    (rw (kept d) (s .samples-ok), accepted u s (zero e))
+
+returns-4 : tie.Need-returns-4
+returns-4 c =
+    let e = c .before .before .before .before in
+    let t = e .before .before in
+    let d = t .before in
+    let u = input (start (else1 d)) in
     record {
-      answered = e .before .before .check-tokens .ensures ∙ sym (second (e .before .before));
-      written = c .before .before .add-residual .ensures ∙ rw (c .before .before .before .before .largest .ensures) (done u z);
+      answered = t .check-tokens .ensures ∙ sym (second t);
+      written = c .before .before .add-residual .ensures ∙ ap (λ (l : List ℕ). added (u .plane) (d .before .before .before .before .before .largest .result) (u .x) (u .y) (u .size) (u .dc) (u .ac) (u .tx-type) (u .lossless) (u .tokens) l) (kept d)
+          ∙ ap (λ (top : ℕ). added (u .plane) top (u .x) (u .y) (u .size) (u .dc) (u .ac) (u .tx-type) (u .lossless) (u .tokens) (u .samples)) (d .before .before .before .before .before .largest .ensures)
+          ∙ done u (second t ∙ zero e);
     }
 
 pub reconstruct-block-spec : {M : Type 1} → statement M
@@ -79,10 +142,14 @@ reconstruct-block-spec =
     (λ c κs. search needs)
     (λ c κs. search needs)
     returns
-    (λ c κs. let s = shaped (input (c .before .before .before .before)) (first c) in (s .depth-ok, s .quantizers-ok))
-    (λ c κs. search needs)
+    (λ c κs. shaped (input (start c)) (first c) .depth-ok)
+    (λ c κs. let e = c .before .before in let u = input (start e) in let s = shaped u (first e) in (s .samples-ok, lent u s))
+    (λ c. search needs)
     returns-2
-    (λ c κs. shaped (input (c .before .before .before .before .before .before .before)) (first (c .before .before .before)) .depth-ok)
+    (λ c κs. let e = else1 c in let s = shaped (input (start e)) (first e) in (s .depth-ok, s .quantizers-ok))
+    (λ c κs. search needs)
+    (λ c. search needs)
+    returns-3
     add-residual-requires
     (λ c. search needs)
-    returns-3)
+    returns-4)
