@@ -1,5 +1,6 @@
 pub mod Digits
 pub mod Places
+pub mod Parts
 pub mod Rows
 pub mod Bit
 pub mod Replace

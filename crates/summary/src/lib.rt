@@ -3,7 +3,7 @@ use quant::AcQuant;
 use quant::DcQuant;
 ghost use mathlib.Core.Path.{_≡_};
 ghost use mathlib.Core.Bool.{false, _||_};
-ghost use Prim.Native.Nat.{_*_, _≤_, _<_};
+ghost use Prim.Native.Nat.{_+_, _*_, _≤_, _<_};
 ghost use lib.Dec.{ltb};
 ghost use lib.IntN.{natAbs};
 ghost use lib.ListN.{length};
@@ -28,15 +28,27 @@ pub enum Row {
     At(u32),
 }
 
-// Whether row i has a number that is not 0: of four by a flag, of more by the first alone where that is enough. For speed.
+// Whether some of n numbers from `start` on, a long row, is not 0: the first two are asked by themselves, because a live row mostly begins with
+// one of them. The first alone would be a branch that goes either way in a sparse block.
+fn long_live(block: &[i64], start: usize, n: usize) -> bool
+    requires { ⌜ (8 ≤ n) × (start + n ≤ length (now block)) ⌝ }
+    ensures { λ r. ⌜ r ≡ live start n (now (block .entry)) ⌝ }
+{
+    if blocks::any_live(block, start, 2) {
+        return true;
+    }
+    blocks::any_live_first(block, start + 2, n - 2)
+}
+
+// Whether row i has a number that is not 0; a short row by a flag, for speed.
 fn row_live(block: &[i64], i: usize, n0: usize) -> bool
     requires { ⌜ (1 ≤ n0) × (n0 ≤ 32) × (i < n0) × (n0 * n0 ≤ length (now block)) ⌝ }
     ensures { λ r. ⌜ r ≡ live (i * n0) n0 (now (block .entry)) ⌝ }
 {
-    if n0 == 4 {
-        return blocks::any_live(block, i * 4, 4);
+    if n0 < 8 {
+        return blocks::any_live(block, i * n0, n0);
     }
-    blocks::any_live_first(block, i * n0, n0)
+    long_live(block, i * n0, n0)
 }
 
 // The summary of a block, row by row.
