@@ -1,5 +1,6 @@
 pub mod Scan
-pub mod Turns
 pub mod Work
 pub mod Small
+pub mod Four
 pub mod Answers
+mod Told

@@ -16,7 +16,7 @@ use Rattle.weights.proofs.Blocks.{small-kept}
 use Rattle.idct32.specs.Engine.{keptLine, keptRows, keptColumns, within16}
 use Rattle.idct32.proofs.Scan.{every-all}
 
-line-keeps : (p : Pass) (n : ℕ) (t : List ℤ) → Keeps p n t → keptLine p n t ≡ true
+pub line-keeps : (p : Pass) (n : ℕ) (t : List ℤ) → Keeps p n t → keptLine p n t ≡ true
 unfolding keptLine
 line-keeps Dct n t h = h
 line-keeps Adst n t h = h

@@ -40,7 +40,7 @@ and-again : (a b : Bool) → a && (a && b) ≡ a && b
 and-again true b = refl
 and-again false b = refl
 
-and-assoc : (a b c : Bool) → a && (b && c) ≡ a && b && c
+pub and-assoc : (a b c : Bool) → a && (b && c) ≡ a && b && c
 and-assoc true b c = refl
 and-assoc false b c = refl
 

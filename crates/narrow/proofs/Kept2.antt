@@ -39,7 +39,7 @@ set-near (z ∷ zs) zero v h b (suc k) = h (suc k)
 set-near (z ∷ zs) (suc i) v h b zero = h zero
 set-near (z ∷ zs) (suc i) v h b (suc k) = set-near zs i v (λ j. h (suc j)) b k
 
-two-near : {m : ℕ} (l : List ℤ) (a b : ℕ) (x y : ℤ) → AllWithin m l → Within m x → Within m y → AllWithin m (set (set l a x) b y)
+pub two-near : {m : ℕ} (l : List ℤ) (a b : ℕ) (x y : ℤ) → AllWithin m l → Within m x → Within m y → AllWithin m (set (set l a x) b y)
 two-near l a b x y h p q = record { each = set-near (set l a x) b y (set-near l a x (h .each) p) q }
 
 at-within : (n : ℕ) (t : List ℤ) → shorts n t ≡ true → (i : ℕ) → i < n → Within 32768 (getD t i (pos 0))

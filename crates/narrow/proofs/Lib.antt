@@ -1,10 +1,8 @@
 pub mod Short
-mod Locals
+pub mod Locals
 pub mod Angles
 pub mod Kept
 pub mod Tried
 pub mod Reach
 pub mod Kept2
 pub mod Safe
-mod Four
-mod Wht

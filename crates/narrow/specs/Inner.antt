@@ -46,6 +46,8 @@ pub record Rotated (t : List ℤ) (a b : ℕ) (cos sin x y : ℤ) : Type 0 where
   pub y-is : y ≡ spinY t a b cos sin
   pub x-in : Within 1073741824 x
   pub y-in : Within 1073741824 y
+  pub a-in : Within 32768 (getD t a (pos 0))
+  pub b-in : Within 32768 (getD t b (pos 0))
 
 -- H without its flip
 unfoldable pub fitsH : ℤ → ℤ → Bool

@@ -2,15 +2,15 @@
 // do not count.
 ghost use mathlib.Core.Path.{_≡_};
 ghost use mathlib.Core.Bool.{true};
-ghost use Prim.Native.Nat.{ℕ, _^_, _≤_};
+ghost use Prim.Native.Nat.{_≤_};
 ghost use lib.ListN.{length};
 ghost use Rattle.steps.specs.Step.{Move, step};
 ghost use Rattle.steps.specs.Step2.{fresh};
 ghost use Rattle.adst.specs.Adst.{adstIn, adstOut, adstSteps, adst};
-ghost use Rattle.narrow.specs.Kept.{shorts, kept2};
+ghost use Rattle.narrow.specs.Kept.{kept2};
 
 // The permutation into ADST8.
-fn input8(t: &mut [i16; 32])
+pub fn input8(t: &mut [i16; 32])
     ensures { λ _. ⌜ now (t .exit) ≡ step (Move 8 (adstIn 3)) (now (t .entry)) ⌝ }
 {
     let from = [7, 0, 5, 2, 3, 4, 1, 6];
@@ -18,7 +18,7 @@ fn input8(t: &mut [i16; 32])
 }
 
 // The permutation out of ADST8.
-fn output8(t: &mut [i16; 32])
+pub fn output8(t: &mut [i16; 32])
     ensures { λ _. ⌜ now (t .exit) ≡ step (Move 8 (adstOut 3)) (now (t .entry)) ⌝ }
 {
     let from = [0, 4, 6, 2, 3, 7, 5, 1];
@@ -26,7 +26,7 @@ fn output8(t: &mut [i16; 32])
 }
 
 // The permutation into ADST16.
-fn input16(t: &mut [i16; 32])
+pub fn input16(t: &mut [i16; 32])
     ensures { λ _. ⌜ now (t .exit) ≡ step (Move 16 (adstIn 4)) (now (t .entry)) ⌝ }
 {
     let from = [15, 0, 13, 2, 11, 4, 9, 6, 7, 8, 5, 10, 3, 12, 1, 14];
@@ -34,7 +34,7 @@ fn input16(t: &mut [i16; 32])
 }
 
 // The permutation out of ADST16.
-fn output16(t: &mut [i16; 32])
+pub fn output16(t: &mut [i16; 32])
     ensures { λ _. ⌜ now (t .exit) ≡ step (Move 16 (adstOut 4)) (now (t .entry)) ⌝ }
 {
     let from = [0, 8, 12, 4, 6, 14, 10, 2, 3, 11, 15, 7, 5, 13, 9, 1];
@@ -69,66 +69,6 @@ pub fn adst8(t: &mut [i16; 32])
     narrow::fneg16(t, 3);
     narrow::fneg16(t, 5);
     narrow::fneg16(t, 7);
-}
-
-// The inverse ADST of 8 numbers, if every number on the way is of 16 bits.
-fn adst8_checked(t: &mut [i16; 32]) -> bool
-    requires { ⌜ (8 ≤ length (now t)) × (shorts 8 (now t) ≡ true) ⌝ }
-    ensures is { λ r. ⌜ r ≡ kept2 8 (adstSteps 3) (fresh (now (t .entry))) ⌝ }
-    ensures then { λ r. ⌜ (r ≡ true → now (t .exit) ≡ adst 3 (now (t .entry))) ⌝ }
-{
-    let mut s = [0i32; 16];
-    input8(t);
-    narrow::fsb16(t, &mut s, 0, 1, 1606, 16305, true);
-    narrow::fsb16(t, &mut s, 2, 3, 7723, 14449, true);
-    narrow::fsb16(t, &mut s, 4, 5, 12665, 10394, true);
-    narrow::fsb16(t, &mut s, 6, 7, 15679, 4756, true);
-    if !narrow::fsh16_checked(t, &s, 0, 4) {
-        return false;
-    }
-    if !narrow::fsh16_checked(t, &s, 1, 5) {
-        return false;
-    }
-    if !narrow::fsh16_checked(t, &s, 2, 6) {
-        return false;
-    }
-    if !narrow::fsh16_checked(t, &s, 3, 7) {
-        return false;
-    }
-    narrow::fsb16(t, &mut s, 4, 5, 6270, 15137, true);
-    narrow::fsb16(t, &mut s, 7, 6, 15137, 6270, true);
-    if !narrow::fsh16_checked(t, &s, 4, 6) {
-        return false;
-    }
-    if !narrow::fsh16_checked(t, &s, 5, 7) {
-        return false;
-    }
-    if !narrow::fh16_checked(t, 0, 2, false) {
-        return false;
-    }
-    if !narrow::fh16_checked(t, 1, 3, false) {
-        return false;
-    }
-    if !narrow::fb16_checked(t, 2, 3, 11585, 11585, true) {
-        return false;
-    }
-    if !narrow::fb16_checked(t, 6, 7, 11585, 11585, true) {
-        return false;
-    }
-    output8(t);
-    if !narrow::fneg16_checked(t, 1) {
-        return false;
-    }
-    if !narrow::fneg16_checked(t, 3) {
-        return false;
-    }
-    if !narrow::fneg16_checked(t, 5) {
-        return false;
-    }
-    if !narrow::fneg16_checked(t, 7) {
-        return false;
-    }
-    true
 }
 
 // The inverse ADST of 16 numbers, where every number on the way is of 16 bits.
@@ -187,143 +127,4 @@ pub fn adst16(t: &mut [i16; 32])
     narrow::fneg16(t, 3);
     narrow::fneg16(t, 13);
     narrow::fneg16(t, 15);
-}
-
-// The inverse ADST of 16 numbers, if every number on the way is of 16 bits.
-fn adst16_checked(t: &mut [i16; 32]) -> bool
-    requires { ⌜ (16 ≤ length (now t)) × (shorts 16 (now t) ≡ true) ⌝ }
-    ensures is { λ r. ⌜ r ≡ kept2 16 (adstSteps 4) (fresh (now (t .entry))) ⌝ }
-    ensures then { λ r. ⌜ (r ≡ true → now (t .exit) ≡ adst 4 (now (t .entry))) ⌝ }
-{
-    let mut s = [0i32; 16];
-    input16(t);
-    narrow::fsb16(t, &mut s, 0, 1, 804, 16364, true);
-    narrow::fsb16(t, &mut s, 2, 3, 3981, 15893, true);
-    narrow::fsb16(t, &mut s, 4, 5, 7005, 14811, true);
-    narrow::fsb16(t, &mut s, 6, 7, 9760, 13160, true);
-    narrow::fsb16(t, &mut s, 8, 9, 12140, 11003, true);
-    narrow::fsb16(t, &mut s, 10, 11, 14053, 8423, true);
-    narrow::fsb16(t, &mut s, 12, 13, 15426, 5520, true);
-    narrow::fsb16(t, &mut s, 14, 15, 16207, 2404, true);
-    if !narrow::fsh16_checked(t, &s, 0, 8) {
-        return false;
-    }
-    if !narrow::fsh16_checked(t, &s, 1, 9) {
-        return false;
-    }
-    if !narrow::fsh16_checked(t, &s, 2, 10) {
-        return false;
-    }
-    if !narrow::fsh16_checked(t, &s, 3, 11) {
-        return false;
-    }
-    if !narrow::fsh16_checked(t, &s, 4, 12) {
-        return false;
-    }
-    if !narrow::fsh16_checked(t, &s, 5, 13) {
-        return false;
-    }
-    if !narrow::fsh16_checked(t, &s, 6, 14) {
-        return false;
-    }
-    if !narrow::fsh16_checked(t, &s, 7, 15) {
-        return false;
-    }
-    narrow::fsb16(t, &mut s, 8, 9, 3196, 16069, true);
-    narrow::fsb16(t, &mut s, 10, 11, 13623, 9102, true);
-    narrow::fsb16(t, &mut s, 12, 13, 16069, -3196, true);
-    narrow::fsb16(t, &mut s, 14, 15, 9102, -13623, true);
-    if !narrow::fsh16_checked(t, &s, 8, 12) {
-        return false;
-    }
-    if !narrow::fsh16_checked(t, &s, 9, 13) {
-        return false;
-    }
-    if !narrow::fsh16_checked(t, &s, 10, 14) {
-        return false;
-    }
-    if !narrow::fsh16_checked(t, &s, 11, 15) {
-        return false;
-    }
-    if !narrow::fh16_checked(t, 0, 4, false) {
-        return false;
-    }
-    if !narrow::fh16_checked(t, 1, 5, false) {
-        return false;
-    }
-    if !narrow::fh16_checked(t, 2, 6, false) {
-        return false;
-    }
-    if !narrow::fh16_checked(t, 3, 7, false) {
-        return false;
-    }
-    narrow::fsb16(t, &mut s, 4, 5, 6270, 15137, true);
-    narrow::fsb16(t, &mut s, 7, 6, 15137, 6270, true);
-    narrow::fsb16(t, &mut s, 12, 13, 6270, 15137, true);
-    narrow::fsb16(t, &mut s, 15, 14, 15137, 6270, true);
-    if !narrow::fsh16_checked(t, &s, 4, 6) {
-        return false;
-    }
-    if !narrow::fsh16_checked(t, &s, 5, 7) {
-        return false;
-    }
-    if !narrow::fsh16_checked(t, &s, 12, 14) {
-        return false;
-    }
-    if !narrow::fsh16_checked(t, &s, 13, 15) {
-        return false;
-    }
-    if !narrow::fh16_checked(t, 0, 2, false) {
-        return false;
-    }
-    if !narrow::fh16_checked(t, 1, 3, false) {
-        return false;
-    }
-    if !narrow::fh16_checked(t, 8, 10, false) {
-        return false;
-    }
-    if !narrow::fh16_checked(t, 9, 11, false) {
-        return false;
-    }
-    if !narrow::fb16_checked(t, 2, 3, -11585, 11585, false) {
-        return false;
-    }
-    if !narrow::fb16_checked(t, 6, 7, 11585, -11585, false) {
-        return false;
-    }
-    if !narrow::fb16_checked(t, 10, 11, 11585, -11585, false) {
-        return false;
-    }
-    if !narrow::fb16_checked(t, 14, 15, -11585, 11585, false) {
-        return false;
-    }
-    output16(t);
-    if !narrow::fneg16_checked(t, 1) {
-        return false;
-    }
-    if !narrow::fneg16_checked(t, 3) {
-        return false;
-    }
-    if !narrow::fneg16_checked(t, 13) {
-        return false;
-    }
-    if !narrow::fneg16_checked(t, 15) {
-        return false;
-    }
-    true
-}
-
-// The inverse ADST of 2^n numbers. True exactly where every number on the way is of 16 bits; where it is not, t holds no result.
-pub fn adst_checked(t: &mut [i16; 32], n: u32) -> bool
-    requires { ⌜ (2 ≤ n) × (n ≤ 4) × (2 ^ n ≤ length (now t)) × (shorts (2 ^ n) (now t) ≡ true) ⌝ }
-    ensures is { λ r. ⌜ r ≡ kept2 (2 ^ n) (adstSteps n) (fresh (now (t .entry))) ⌝ }
-    ensures then { λ r. ⌜ (r ≡ true → now (t .exit) ≡ adst n (now (t .entry))) ⌝ }
-{
-    if n == 2 {
-        return narrow::adst4_checked(t);
-    }
-    if n == 3 {
-        return adst8_checked(t);
-    }
-    adst16_checked(t)
 }

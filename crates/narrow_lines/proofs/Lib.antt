@@ -1,5 +1,5 @@
 mod Absolute
-mod Places
-mod Strips
+pub mod Places
+pub mod Strips
 mod Spin
-mod About
+pub mod About

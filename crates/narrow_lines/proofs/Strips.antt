@@ -35,7 +35,7 @@ module _ (p : Pass) (n at j : ℕ) (s₀ : List ℤ) {s : List ℤ} (done : s �
   line-is = made
 
   -- T is the column as it was at the start
-  met : j < 8 → at + 8 ≤ side n → t ≡ column (side n) (at + j) s₀
+  pub met : j < 8 → at + 8 ≤ side n → t ≡ column (side n) (at + j) s₀
   unfolding strip
   met h l = line-is ∙ ap (column (side n) (at + j)) done ∙ later (apply p n) (side n) j (at + j) (λ i. at + i) s₀ (λ i hi. omega arith) (omega arith)
 

@@ -6,14 +6,10 @@ use lib.IntN.{ℤ, pos}
 use lib.ListN.{length, getD}
 use Rattle.whole.specs.Inner.{times}
 use Rattle.answers.specs.Sizes.{side}
-use Rattle.blocks.specs.Block.{row, column}
-use Rattle.blocks.specs.Inner.{setLine, changeLine}
+use Rattle.blocks.specs.Block.{column}
+use Rattle.blocks.specs.Inner.{changeLine}
 use Rattle.blocks.specs.Inverse.{Pass, apply}
 use Rattle.weights.specs.Inner.{Keeps}
-
--- row i of s to the place of column i of u, row after row
-unfoldable pub turn : ℕ → List ℤ → List ℤ → List ℤ
-turn n0 s = times n0 (λ i. setLine (λ z. z) i n0 n0 (row n0 i s))
 
 -- t is u from place m on, and as long
 pub record Tail (m : ℕ) (u t : List ℤ) : Type 0 where

@@ -12,7 +12,7 @@ ghost use Rattle.blocks.specs.Block.{row, column, rows, columns};
 ghost use Rattle.blocks.specs.Inner.{setLine};
 ghost use Rattle.blocks.specs.Inverse.{Dct, Adst, apply, lossy};
 ghost use Rattle.weights.specs.Inner.{total, Keeps};
-ghost use Rattle.narrow_lines.specs.Inner.{turn, strip, StripKeeps, Tail, Mixed, About};
+ghost use Rattle.narrow_lines.specs.Inner.{strip, StripKeeps, Tail, Mixed, About};
 
 // A block of the greatest size, all zeros.
 pub fn zeros() -> [i16; 1024]
@@ -42,21 +42,16 @@ pub fn store(s: &mut [i16; 1024], t: &[i16; 32], start: usize, step: usize, n: u
     }
 }
 
-// Row i to the place of column i, for every row.
-fn turn(to: &mut [i16; 1024], from: &[i16; 1024], n0: usize)
-    requires { ⌜ n0 ≤ 32 ⌝ }
-    ensures { λ _. ⌜ now (to .exit) ≡ turn n0 (now (from .entry)) (now (to .entry)) ⌝ }
+// Numbers for a block of 16 by 16 that is being turned about.
+fn zeros256() -> [i16; 256]
+    ensures { λ r. ⌜ r ≡ replicate 256 (pos 0) ⌝ }
 {
-    for i in 0..n0 {
-        let mut t = [0i16; 32];
-        load(&mut t, from, i * n0, 1, n0);
-        store(to, &t, i, n0, n0);
-    }
+    [0i16; 256]
 }
 
 // The first `half` numbers and the next, in turns: where the work is turned about by such steps, the compiler takes eight numbers at a time.
-fn mix(to: &mut [i16; 1024], from: &[i16; 1024], half: usize)
-    requires { ⌜ (half ≤ 512) × (length (now to) ≡ 1024) ⌝ }
+fn mix(to: &mut [i16], from: &[i16], half: usize)
+    requires { ⌜ (half ≤ 512) × (2 * half ≤ length (now to)) × (2 * half ≤ length (now from)) ⌝ }
     ensures { λ _. ⌜ Mixed half half (now (from .entry)) (now (to .entry)) (now (to .exit)) ⌝ }
 {
     for k in 0..half {
@@ -65,28 +60,32 @@ fn mix(to: &mut [i16; 1024], from: &[i16; 1024], half: usize)
     }
 }
 
-// A block of 8 by 8 turned about.
-fn turn8(to: &mut [i16; 1024], from: &[i16; 1024])
-    requires { ⌜ length (now to) ≡ 1024 ⌝ }
-    ensures { λ _. ⌜ About 8 (now (from .entry)) (now (to .entry)) (now (to .exit)) ⌝ }
+// A block of 8 by 8 turned about in its place: 64 is 2^6, and 3 steps are half of the way round. Arrays of that size stay in registers.
+pub fn turn8(z: &mut [i16; 1024])
+    requires { ⌜ length (now z) ≡ 1024 ⌝ }
+    ensures { λ _. ⌜ About 8 (now (z .entry)) (now (z .entry)) (now (z .exit)) ⌝ }
 {
-    turn(to, from, 8);
+    let mut one = zeros256();
+    let mut two = zeros256();
+    mix(&mut one, z, 32);
+    mix(&mut two, &one, 32);
+    mix(z, &two, 32);
 }
 
-// A block of 16 by 16 turned about in its place: 256 is 2^8, and 4 steps are half of the way round.
-fn turn16(z: &mut [i16; 1024], other: &mut [i16; 1024])
-    requires { ⌜ (length (now z) ≡ 1024) × (length (now other) ≡ 1024) ⌝ }
-    ensures made { λ _. ⌜ About 16 (now (z .entry)) (now (z .entry)) (now (z .exit)) ⌝ }
-    ensures kept { λ _. ⌜ length (now (other .exit)) ≡ 1024 ⌝ }
+// A block of 16 by 16 turned about in its place: 4 steps of 8.
+pub fn turn16(z: &mut [i16; 1024])
+    requires { ⌜ length (now z) ≡ 1024 ⌝ }
+    ensures { λ _. ⌜ About 16 (now (z .entry)) (now (z .entry)) (now (z .exit)) ⌝ }
 {
-    mix(other, z, 128);
-    mix(z, other, 128);
-    mix(other, z, 128);
-    mix(z, other, 128);
+    let mut other = zeros256();
+    mix(&mut other, z, 128);
+    mix(z, &other, 128);
+    mix(&mut other, z, 128);
+    mix(z, &other, 128);
 }
 
 // A block of 32 by 32 turned about: 5 steps of 10.
-fn turn32(to: &mut [i16; 1024], from: &mut [i16; 1024])
+pub fn turn32(to: &mut [i16; 1024], from: &mut [i16; 1024])
     requires { ⌜ (length (now to) ≡ 1024) × (length (now from) ≡ 1024) ⌝ }
     ensures made { λ _. ⌜ About 32 (now (from .entry)) (now (to .entry)) (now (to .exit)) ⌝ }
     ensures kept { λ _. ⌜ Tail (32 * 32) (now (from .entry)) (now (from .exit)) ⌝ }
@@ -195,33 +194,34 @@ pub fn columns(z: &mut [i16; 1024], n: u32, use_dct: bool)
 }
 
 // The rows of a block of 8 by 8: turned about, they are columns.
-fn rows8(z: &mut [i16; 1024], other: &mut [i16; 1024], use_dct: bool)
-    requires { ⌜ (length (now z) ≡ 1024) × (length (now other) ≡ 1024) × ((i : ℕ) → i < side 3 → Keeps (lossy «use_dct») 3 (row (side 3) i (now z))) ⌝ }
+fn rows8(z: &mut [i16; 1024], use_dct: bool)
+    requires { ⌜ (length (now z) ≡ 1024) × ((i : ℕ) → i < side 3 → Keeps (lossy «use_dct») 3 (row (side 3) i (now z))) ⌝ }
     ensures { λ _. ⌜ now (z .exit) ≡ rows (apply (lossy «use_dct») 3) (side 3) (now (z .entry)) ⌝ }
 {
-    turn8(other, z);
-    columns(other, 3, use_dct);
-    turn8(z, other);
+    turn8(z);
+    columns(z, 3, use_dct);
+    turn8(z);
 }
 
 // Of 16 by 16.
-fn rows16(z: &mut [i16; 1024], other: &mut [i16; 1024], use_dct: bool)
-    requires { ⌜ (length (now z) ≡ 1024) × (length (now other) ≡ 1024) × ((i : ℕ) → i < side 4 → Keeps (lossy «use_dct») 4 (row (side 4) i (now z))) ⌝ }
+fn rows16(z: &mut [i16; 1024], use_dct: bool)
+    requires { ⌜ (length (now z) ≡ 1024) × ((i : ℕ) → i < side 4 → Keeps (lossy «use_dct») 4 (row (side 4) i (now z))) ⌝ }
     ensures { λ _. ⌜ now (z .exit) ≡ rows (apply (lossy «use_dct») 4) (side 4) (now (z .entry)) ⌝ }
 {
-    turn16(z, other);
+    turn16(z);
     columns(z, 4, use_dct);
-    turn16(z, other);
+    turn16(z);
 }
 
 // Of 32 by 32.
-fn rows32(z: &mut [i16; 1024], other: &mut [i16; 1024], use_dct: bool)
-    requires { ⌜ («use_dct» ≡ false → 5 ≤ 4) × (length (now z) ≡ 1024) × (length (now other) ≡ 1024) × ((i : ℕ) → i < side 5 → Keeps (lossy «use_dct») 5 (row (side 5) i (now z))) ⌝ }
+fn rows32(z: &mut [i16; 1024], use_dct: bool)
+    requires { ⌜ («use_dct» ≡ false → 5 ≤ 4) × (length (now z) ≡ 1024) × ((i : ℕ) → i < side 5 → Keeps (lossy «use_dct») 5 (row (side 5) i (now z))) ⌝ }
     ensures { λ _. ⌜ now (z .exit) ≡ rows (apply (lossy «use_dct») 5) (side 5) (now (z .entry)) ⌝ }
 {
-    turn32(other, z);
-    columns(other, 5, use_dct);
-    turn32(z, other);
+    let mut other = zeros();
+    turn32(&mut other, z);
+    columns(&mut other, 5, use_dct);
+    turn32(z, &mut other);
 }
 
 // All rows of a block.
@@ -229,13 +229,12 @@ pub fn rows(z: &mut [i16; 1024], n: u32, use_dct: bool)
     requires { ⌜ (3 ≤ n) × (n ≤ 5) × («use_dct» ≡ false → n ≤ 4) × (length (now z) ≡ 1024) × ((i : ℕ) → i < side n → Keeps (lossy «use_dct») n (row (side n) i (now z))) ⌝ }
     ensures { λ _. ⌜ now (z .exit) ≡ rows (apply (lossy «use_dct») n) (side n) (now (z .entry)) ⌝ }
 {
-    let mut other = zeros();
     if n == 3 {
-        rows8(z, &mut other, use_dct);
+        rows8(z, use_dct);
     } else if n == 4 {
-        rows16(z, &mut other, use_dct);
+        rows16(z, use_dct);
     } else {
-        rows32(z, &mut other, use_dct);
+        rows32(z, use_dct);
     }
 }
 

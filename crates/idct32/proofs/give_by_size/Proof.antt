@@ -17,36 +17,25 @@ give-rounded-requires c κs =
     let e = c .before in
     (omega arith, rw (e .if1 .taken) at (e .before .pre .2), omega arith, omega arith)
 
-give-rounded-requires-2 : tie.Need-give-rounded-requires-2
-give-rounded-requires-2 c κs =
-    let e = c .before in
-    (omega arith, rw (e .if2 .taken) at (e .before .before .pre .2), omega arith, omega arith)
-
 returns : tie.Need-returns
 returns c = let g = c .before in rw (g .before .before .if1 .taken) (g .give-rounded .ensures)
 
 returns-2 : tie.Need-returns-2
-returns-2 c = let g = c .before in rw (g .before .before .if2 .taken) (g .give-rounded2 .ensures)
-
-returns-3 : tie.Need-returns-3
-returns-3 c =
+returns-2 c =
     let g = c .before in
     let a = g .before in
     let e = a .before .before in
-    let s = e .before .before in
-    rw (six (s .args .n) (omega (arith, s .pre .0, e .before .if1 .left, e .if2 .left)) (s .pre .1)) (rw (a .area .ensures .0) at (g .give-rounded3 .ensures))
+    let s = e .before in
+    rw (six (s .args .n) (omega (arith, s .pre .0, e .if1 .left)) (s .pre .1)) (rw (a .area .ensures .0) at (g .give-rounded2 .ensures))
 
 pub give-by-size-spec : {M : Type 1} → statement M
 give-by-size-spec =
     tie.close
     (tie.spec
     give-rounded-requires
-    give-rounded-requires-2
     (λ c κs. search needs)
     (λ c κs. search needs)
     (λ c. search needs)
     returns
     (λ c. search needs)
-    returns-2
-    (λ c. search needs)
-    returns-3)
+    returns-2)

@@ -25,11 +25,11 @@ y-is c =
 
 returns : tie.Need-returns
 unfolding setPair
-returns c = rw (c .if1 .taken, x-is (c .before .before), y-is (c .before .before))
+returns c = let r = c .before .before .before .turn .ensures in (rw (c .if1 .taken, x-is (c .before .before), y-is (c .before .before)), (r .a-in, r .b-in))
 
 returns-2 : tie.Need-returns-2
 unfolding setPair
-returns-2 c = rw (c .if1 .left, x-is (c .before .before), y-is (c .before .before))
+returns-2 c = let r = c .before .before .before .turn .ensures in (rw (c .if1 .left, x-is (c .before .before), y-is (c .before .before)), (r .a-in, r .b-in))
 
 pub fsb16-spec : {M : Type 1} → statement M
 fsb16-spec =

@@ -1,9 +1,10 @@
 -- `narrow::turn` meets its contract.
-use mathlib.Core.Path.{_≡_, ap₂, _∙_}
+use mathlib.Core.Path.{_≡_, ap₂, subst, _∙_}
 use lib.IntN.{ℤ, pos, _+ℤ_, _-ℤ_, _*ℤ_}
 use lib.ListN.{getD}
 use mir.Syntax.{w32}
 use borrow.Author.Needs.{needs}
+use Rattle.whole.specs.Within.{Within}
 use Rattle.whole.proofs.Signed.{C, loc, _⊕_, _⊖_, _⊗_, code, fits, value, within}
 use Rattle.narrow.specs.Inner.{spinX, spinY}
 use Rattle.narrow.proofs.Locals.{read}
@@ -47,7 +48,15 @@ module _ (c : tie.After-wide2) where
   y-is = value w32 ys tt ∙ ap₂ (λ (y z : ℤ). y *ℤ s .args .sin +ℤ z *ℤ s .args .cos) (p-is (c .before .before)) (q-is c)
 
 returns : tie.Need-returns
-returns c = record { x-is = x-is c; y-is = y-is c; x-in = within w32 1073741824 (xs c) tt tt; y-in = within w32 1073741824 (ys c) tt tt }
+returns c =
+    record {
+      x-is = x-is c;
+      y-is = y-is c;
+      x-in = within w32 1073741824 (xs c) tt tt;
+      y-in = within w32 1073741824 (ys c) tt tt;
+      a-in = subst (Within 32768) (p-is (c .before .before)) (c .before .before .wide .ensures .1);
+      b-in = subst (Within 32768) (q-is c) (c .wide2 .ensures .1);
+    }
 
 pub turn-spec : {M : Type 1} → statement M
 turn-spec =

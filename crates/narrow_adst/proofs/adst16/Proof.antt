@@ -61,28 +61,28 @@ abbrev at1 : tie.After-input16 → At 1
 at1 c = next-T (at0 (c .before .before)) (lit< tt) refl (c .input16 .ensures)
 
 abbrev at2 : tie.After-fsb16 → At 2
-at2 c = next (on A4) (at1 (c .before .before .before)) (lit< tt) (does-S angle31 0 1 true (at1 (c .before .before .before) .here) (c .fsb16 .ensures))
+at2 c = next (on A4) (at1 (c .before .before .before)) (lit< tt) (does-S angle31 0 1 true (at1 (c .before .before .before) .here) (c .fsb16 .ensures .0))
 
 abbrev at3 : tie.After-fsb162 → At 3
-at3 c = next (on A4) (at2 (c .before .before .before)) (lit< tt) (does-S angle27 2 3 true (at2 (c .before .before .before) .here) (c .fsb162 .ensures))
+at3 c = next (on A4) (at2 (c .before .before .before)) (lit< tt) (does-S angle27 2 3 true (at2 (c .before .before .before) .here) (c .fsb162 .ensures .0))
 
 abbrev at4 : tie.After-fsb163 → At 4
-at4 c = next (on A4) (at3 (c .before .before .before)) (lit< tt) (does-S angle23 4 5 true (at3 (c .before .before .before) .here) (c .fsb163 .ensures))
+at4 c = next (on A4) (at3 (c .before .before .before)) (lit< tt) (does-S angle23 4 5 true (at3 (c .before .before .before) .here) (c .fsb163 .ensures .0))
 
 abbrev at5 : tie.After-fsb164 → At 5
-at5 c = next (on A4) (at4 (c .before .before .before)) (lit< tt) (does-S angle19 6 7 true (at4 (c .before .before .before) .here) (c .fsb164 .ensures))
+at5 c = next (on A4) (at4 (c .before .before .before)) (lit< tt) (does-S angle19 6 7 true (at4 (c .before .before .before) .here) (c .fsb164 .ensures .0))
 
 abbrev at6 : tie.After-fsb165 → At 6
-at6 c = next (on A4) (at5 (c .before .before .before)) (lit< tt) (does-S angle15 8 9 true (at5 (c .before .before .before) .here) (c .fsb165 .ensures))
+at6 c = next (on A4) (at5 (c .before .before .before)) (lit< tt) (does-S angle15 8 9 true (at5 (c .before .before .before) .here) (c .fsb165 .ensures .0))
 
 abbrev at7 : tie.After-fsb166 → At 7
-at7 c = next (on A4) (at6 (c .before .before .before)) (lit< tt) (does-S angle11 10 11 true (at6 (c .before .before .before) .here) (c .fsb166 .ensures))
+at7 c = next (on A4) (at6 (c .before .before .before)) (lit< tt) (does-S angle11 10 11 true (at6 (c .before .before .before) .here) (c .fsb166 .ensures .0))
 
 abbrev at8 : tie.After-fsb167 → At 8
-at8 c = next (on A4) (at7 (c .before .before .before)) (lit< tt) (does-S angle7 12 13 true (at7 (c .before .before .before) .here) (c .fsb167 .ensures))
+at8 c = next (on A4) (at7 (c .before .before .before)) (lit< tt) (does-S angle7 12 13 true (at7 (c .before .before .before) .here) (c .fsb167 .ensures .0))
 
 abbrev at9 : tie.After-fsb168 → At 9
-at9 c = next (on A4) (at8 (c .before .before .before)) (lit< tt) (does-S angle3 14 15 true (at8 (c .before .before .before) .here) (c .fsb168 .ensures))
+at9 c = next (on A4) (at8 (c .before .before .before)) (lit< tt) (does-S angle3 14 15 true (at8 (c .before .before .before) .here) (c .fsb168 .ensures .0))
 
 abbrev at10 : tie.After-fsh16 → At 10
 at10 c = next (on A4) (at9 (c .before .before .before)) (lit< tt) (c .fsh16 .ensures)
@@ -109,16 +109,16 @@ abbrev at17 : tie.After-fsh168 → At 17
 at17 c = next (on A4) (at16 (c .before .before .before)) (lit< tt) (c .fsh168 .ensures)
 
 abbrev at18 : tie.After-fsb169 → At 18
-at18 c = next (on A4) (at17 (c .before .before .before)) (lit< tt) (does-S angle28 8 9 true (at17 (c .before .before .before) .here) (c .fsb169 .ensures))
+at18 c = next (on A4) (at17 (c .before .before .before)) (lit< tt) (does-S angle28 8 9 true (at17 (c .before .before .before) .here) (c .fsb169 .ensures .0))
 
 abbrev at19 : tie.After-fsb1610 → At 19
-at19 c = next (on A4) (at18 (c .before .before .before)) (lit< tt) (does-S angle12 10 11 true (at18 (c .before .before .before) .here) (c .fsb1610 .ensures))
+at19 c = next (on A4) (at18 (c .before .before .before)) (lit< tt) (does-S angle12 10 11 true (at18 (c .before .before .before) .here) (c .fsb1610 .ensures .0))
 
 abbrev at20 : tie.After-fsb1611 → At 20
-at20 c = next (on A4) (at19 (c .before .before .before)) (lit< tt) (does-S angleBack4 12 13 true (at19 (c .before .before .before) .here) (c .fsb1611 .ensures))
+at20 c = next (on A4) (at19 (c .before .before .before)) (lit< tt) (does-S angleBack4 12 13 true (at19 (c .before .before .before) .here) (c .fsb1611 .ensures .0))
 
 abbrev at21 : tie.After-fsb1612 → At 21
-at21 c = next (on A4) (at20 (c .before .before .before)) (lit< tt) (does-S angleBack20 14 15 true (at20 (c .before .before .before) .here) (c .fsb1612 .ensures))
+at21 c = next (on A4) (at20 (c .before .before .before)) (lit< tt) (does-S angleBack20 14 15 true (at20 (c .before .before .before) .here) (c .fsb1612 .ensures .0))
 
 abbrev at22 : tie.After-fsh169 → At 22
 at22 c = next (on A4) (at21 (c .before .before .before)) (lit< tt) (c .fsh169 .ensures)
@@ -145,16 +145,16 @@ abbrev at29 : tie.After-fh164 → At 29
 at29 c = next-T (at28 (c .before .before)) (lit< tt) refl (c .fh164 .ensures)
 
 abbrev at30 : tie.After-fsb1613 → At 30
-at30 c = next (on A4) (at29 (c .before .before .before)) (lit< tt) (does-S angle24 4 5 true (at29 (c .before .before .before) .here) (c .fsb1613 .ensures))
+at30 c = next (on A4) (at29 (c .before .before .before)) (lit< tt) (does-S angle24 4 5 true (at29 (c .before .before .before) .here) (c .fsb1613 .ensures .0))
 
 abbrev at31 : tie.After-fsb1614 → At 31
-at31 c = next (on A4) (at30 (c .before .before .before)) (lit< tt) (does-S angle8 7 6 true (at30 (c .before .before .before) .here) (c .fsb1614 .ensures))
+at31 c = next (on A4) (at30 (c .before .before .before)) (lit< tt) (does-S angle8 7 6 true (at30 (c .before .before .before) .here) (c .fsb1614 .ensures .0))
 
 abbrev at32 : tie.After-fsb1615 → At 32
-at32 c = next (on A4) (at31 (c .before .before .before)) (lit< tt) (does-S angle24 12 13 true (at31 (c .before .before .before) .here) (c .fsb1615 .ensures))
+at32 c = next (on A4) (at31 (c .before .before .before)) (lit< tt) (does-S angle24 12 13 true (at31 (c .before .before .before) .here) (c .fsb1615 .ensures .0))
 
 abbrev at33 : tie.After-fsb1616 → At 33
-at33 c = next (on A4) (at32 (c .before .before .before)) (lit< tt) (does-S angle8 15 14 true (at32 (c .before .before .before) .here) (c .fsb1616 .ensures))
+at33 c = next (on A4) (at32 (c .before .before .before)) (lit< tt) (does-S angle8 15 14 true (at32 (c .before .before .before) .here) (c .fsb1616 .ensures .0))
 
 abbrev at34 : tie.After-fsh1613 → At 34
 at34 c = next (on A4) (at33 (c .before .before .before)) (lit< tt) (c .fsh1613 .ensures)

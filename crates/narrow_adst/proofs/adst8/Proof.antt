@@ -57,16 +57,16 @@ abbrev at1 : tie.After-input8 → At 1
 at1 c = next-T (at0 (c .before .before)) (lit< tt) refl (c .input8 .ensures)
 
 abbrev at2 : tie.After-fsb16 → At 2
-at2 c = next (on A4) (at1 (c .before .before .before)) (lit< tt) (does-S angle30 0 1 true (at1 (c .before .before .before) .here) (c .fsb16 .ensures))
+at2 c = next (on A4) (at1 (c .before .before .before)) (lit< tt) (does-S angle30 0 1 true (at1 (c .before .before .before) .here) (c .fsb16 .ensures .0))
 
 abbrev at3 : tie.After-fsb162 → At 3
-at3 c = next (on A4) (at2 (c .before .before .before)) (lit< tt) (does-S angle22 2 3 true (at2 (c .before .before .before) .here) (c .fsb162 .ensures))
+at3 c = next (on A4) (at2 (c .before .before .before)) (lit< tt) (does-S angle22 2 3 true (at2 (c .before .before .before) .here) (c .fsb162 .ensures .0))
 
 abbrev at4 : tie.After-fsb163 → At 4
-at4 c = next (on A4) (at3 (c .before .before .before)) (lit< tt) (does-S angle14 4 5 true (at3 (c .before .before .before) .here) (c .fsb163 .ensures))
+at4 c = next (on A4) (at3 (c .before .before .before)) (lit< tt) (does-S angle14 4 5 true (at3 (c .before .before .before) .here) (c .fsb163 .ensures .0))
 
 abbrev at5 : tie.After-fsb164 → At 5
-at5 c = next (on A4) (at4 (c .before .before .before)) (lit< tt) (does-S angle6 6 7 true (at4 (c .before .before .before) .here) (c .fsb164 .ensures))
+at5 c = next (on A4) (at4 (c .before .before .before)) (lit< tt) (does-S angle6 6 7 true (at4 (c .before .before .before) .here) (c .fsb164 .ensures .0))
 
 abbrev at6 : tie.After-fsh16 → At 6
 at6 c = next (on A4) (at5 (c .before .before .before)) (lit< tt) (c .fsh16 .ensures)
@@ -81,10 +81,10 @@ abbrev at9 : tie.After-fsh164 → At 9
 at9 c = next (on A4) (at8 (c .before .before .before)) (lit< tt) (c .fsh164 .ensures)
 
 abbrev at10 : tie.After-fsb165 → At 10
-at10 c = next (on A4) (at9 (c .before .before .before)) (lit< tt) (does-S angle24 4 5 true (at9 (c .before .before .before) .here) (c .fsb165 .ensures))
+at10 c = next (on A4) (at9 (c .before .before .before)) (lit< tt) (does-S angle24 4 5 true (at9 (c .before .before .before) .here) (c .fsb165 .ensures .0))
 
 abbrev at11 : tie.After-fsb166 → At 11
-at11 c = next (on A4) (at10 (c .before .before .before)) (lit< tt) (does-S angle8 7 6 true (at10 (c .before .before .before) .here) (c .fsb166 .ensures))
+at11 c = next (on A4) (at10 (c .before .before .before)) (lit< tt) (does-S angle8 7 6 true (at10 (c .before .before .before) .here) (c .fsb166 .ensures .0))
 
 abbrev at12 : tie.After-fsh165 → At 12
 at12 c = next (on A4) (at11 (c .before .before .before)) (lit< tt) (c .fsh165 .ensures)

@@ -1,9 +1,6 @@
-use mathlib.Core.Path.{_≡_, ap, subst, _∙_}
+use mathlib.Core.Path.{_≡_, subst}
 use Prim.Native.Nat.{ℕ, _≤_, _<_}
 use native.Mathlib.Omega.{arith}
-use borrow.Author.Needs.{needs}
-use lib.IntN.{pos}
-use lib.ListN.{length, length-replicate}
 use Rattle.answers.specs.Sizes.{side}
 use Rattle.blocks.specs.Block.{row}
 use Rattle.blocks.specs.Inverse.{lossy}
@@ -16,38 +13,35 @@ module _ (s : tie.Start) where
   keeps : {m : ℕ} → s .args .n ≡ m → (i : ℕ) → i < side m → Keeps (lossy (s .args .use-dct)) m (row (side m) i (s .args .z .now))
   keeps e = subst (λ (m : ℕ). (i : ℕ) → i < side m → Keeps (lossy (s .args .use-dct)) m (row (side m) i (s .args .z .now))) e (s .pre .4)
 
-long : (c : tie.After-zeros) → length (c .zeros .result) ≡ 1024
-long c = ap length (c .zeros .ensures) ∙ length-replicate 1024 (pos 0)
-
-five : (c : tie.Else2) → c .before .before .before .args .n ≡ 5
-five c = let s = c .before .before .before in omega (arith, s .pre .0, s .pre .1, c .before .if1 .left, c .if2 .left)
+five : (c : tie.Else2) → c .before .before .args .n ≡ 5
+five c = let s = c .before .before in omega (arith, s .pre .0, s .pre .1, c .before .if1 .left, c .if2 .left)
 
 rows8-requires : tie.Need-rows8-requires
 rows8-requires c κs =
-    let e = c .before .before in
-    let s = e .before .before in
-    (s .pre .3, long (e .before), keeps s (e .if1 .taken))
+    let e = c .before in
+    let s = e .before in
+    (s .pre .3, keeps s (e .if1 .taken))
 
 rows16-requires : tie.Need-rows16-requires
 rows16-requires c κs =
-    let e = c .before .before in
-    let s = e .before .before .before in
-    (s .pre .3, long (e .before .before), keeps s (e .if2 .taken))
+    let e = c .before in
+    let s = e .before .before in
+    (s .pre .3, keeps s (e .if2 .taken))
 
 rows32-requires : tie.Need-rows32-requires
 rows32-requires c κs =
-    let e = c .before .before in
-    let s = e .before .before .before in
-    (λ h. rw (five e) at (s .pre .2 h), s .pre .3, long (e .before .before), keeps s (five e))
+    let e = c .before in
+    let s = e .before .before in
+    (λ h. rw (five e) at (s .pre .2 h), s .pre .3, keeps s (five e))
 
 returns : tie.Need-returns
-returns c = rw (c .before .before .before .if1 .taken) (c .rows8 .ensures)
+returns c = rw (c .before .before .if1 .taken) (c .rows8 .ensures)
 
 returns-2 : tie.Need-returns-2
-returns-2 c = rw (c .before .before .before .if2 .taken) (c .rows16 .ensures)
+returns-2 c = rw (c .before .before .if2 .taken) (c .rows16 .ensures)
 
 returns-3 : tie.Need-returns-3
-returns-3 c = rw (five (c .before .before .before)) (c .rows32 .ensures)
+returns-3 c = rw (five (c .before .before)) (c .rows32 .ensures)
 
 pub rows-spec : {M : Type 1} → statement M
-rows-spec = tie.close (tie.spec (λ c κs. search needs) rows8-requires rows16-requires rows32-requires returns returns-2 returns-3)
+rows-spec = tie.close (tie.spec rows8-requires rows16-requires rows32-requires returns returns-2 returns-3)

@@ -6,11 +6,11 @@ use Rattle.narrow_lines.proofs.turn32.Tie as tie
 
 returns : tie.Need-returns
 returns c =
-    let c4 = c .before .before .before in
-    let c3 = c4 .before .before .before in
-    let c2 = c3 .before .before .before in
-    let c1 = c2 .before .before .before in
-    let s = c1 .before .before .before in
+    let c4 = c .before .before .before .before in
+    let c3 = c4 .before .before .before .before in
+    let c2 = c3 .before .before .before .before in
+    let c1 = c2 .before .before .before .before in
+    let s = c1 .before .before .before .before in
     let w1 = spun-more 1 512 (spun-none 1024 (s .args .from .now)) (c1 .mix .ensures) in
     let w2 = spun-more 2 256 w1 (c2 .mix2 .ensures) in
     let w3 = spun-more 4 128 w2 (c3 .mix3 .ensures) in
@@ -21,4 +21,12 @@ returns c =
     )
 
 pub turn32-spec : {M : Type 1} → statement M
-turn32-spec = tie.close (tie.spec (λ c κs. search needs) (λ c κs. search needs) (λ c κs. search needs) (λ c κs. search needs) (λ c κs. search needs) returns)
+turn32-spec =
+    tie.close
+    (tie.spec
+    (λ c κs. search needs)
+    (λ c κs. search needs)
+    (λ c κs. search needs)
+    (λ c κs. search needs)
+    (λ c κs. search needs)
+    returns)

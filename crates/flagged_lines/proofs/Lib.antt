@@ -1,0 +1,2 @@
+mod Side
+mod Across

@@ -1,0 +1,3 @@
+pub mod Scan
+pub mod Four
+pub mod Wht
