@@ -4,10 +4,10 @@ use plane::cut;
 ghost use mathlib.Core.Path.{_≡_};
 ghost use Prim.Native.Nat.{ℕ, min, _+_, _-_, _*_, _≤_, _<_};
 ghost use lib.IntN.{pos, _+ℤ_};
-ghost use lib.ListN.{length, getD};
-ghost use Rattle.whole.specs.Lists.{tabulate};
+ghost use lib.ListN.{length, getD, replicate};
+ghost use Rattle.whole.specs.Lists.{fill};
 ghost use Rattle.whole.specs.Parts.{P, N};
-ghost use Rattle.plane.specs.Place.{SamplesOf};
+ghost use Rattle.plane.specs.Place.{SamplesOf, cut};
 ghost use Rattle.plane.specs.Plane.{clip, planeAfter};
 ghost use Rattle.plane.specs.Inner.{rowAfter};
 
@@ -69,25 +69,25 @@ fn clip(sample: u16, r: i16, top: u16) -> u16
     least(down(up(sample, positive(r)), negative(r)), top)
 }
 
-// The eight samples from `at` on with their residuals.
-fn sums(samples: &[u16], at: usize, z: &[i16; 1024], from: usize, top: u16) -> [u16; 8]
-    requires { ⌜ (at + 8 ≤ length (now samples)) × (from + 8 ≤ 1024) ⌝ }
-    ensures { λ r. ⌜ r ≡ tabulate (λ j. clip top (pos (getD (now (samples .entry)) (at + j) 0) +ℤ getD (now (z .entry)) (from + j) (pos 0))) 8 ⌝ }
+// The n samples from `at` on with their residuals.
+fn sums(samples: &[u16], at: usize, z: &[i16; 1024], from: usize, n: usize, top: u16) -> [u16; 8]
+    requires { ⌜ (n ≤ 8) × (at + n ≤ length (now samples)) × (from + n ≤ 1024) ⌝ }
+    ensures { λ r. ⌜ r ≡ fill n (λ j. clip top (pos (getD (now (samples .entry)) (at + j) 0) +ℤ getD (now (z .entry)) (from + j) (pos 0))) (replicate 8 0) ⌝ }
 {
     let mut o = [0u16; 8];
-    for j in 0..8usize {
+    for j in 0..n {
         o[j] = clip(samples[at + j], z[from + j], top);
     }
     o
 }
 
-// All eight are made before the first is written, so that they go side by side.
-fn add8(samples: &mut [u16], at: usize, z: &[i16; 1024], from: usize, top: u16)
-    requires { ⌜ (at + 8 ≤ length (now samples)) × (from + 8 ≤ 1024) ⌝ }
-    ensures { λ _. ⌜ ((k : ℕ) → getD (now (samples .exit)) k 0 ≡ rowAfter top (λ j. getD (now (z .entry)) (from + j) (pos 0)) at 8 (now (samples .entry)) k) ⌝ }
+// All n are made before the first is written, so that they go side by side; n is a literal, 8 or 4.
+fn add_few(samples: &mut [u16], at: usize, z: &[i16; 1024], from: usize, n: usize, top: u16)
+    requires { ⌜ (n ≤ 8) × (at + n ≤ length (now samples)) × (from + n ≤ 1024) ⌝ }
+    ensures { λ _. ⌜ ((k : ℕ) → getD (now (samples .exit)) k 0 ≡ rowAfter top (λ j. getD (now (z .entry)) (from + j) (pos 0)) at n (now (samples .entry)) k) ⌝ }
 {
-    let o = sums(samples, at, z, from, top);
-    for j in 0..8usize {
+    let o = sums(samples, at, z, from, n, top);
+    for j in 0..n {
         samples[at + j] = o[j];
     }
 }
@@ -103,20 +103,52 @@ fn add_rest(samples: &mut [u16], at: usize, z: &[i16; 1024], from: usize, cols: 
     }
 }
 
-// One row.
-fn add_row(samples: &mut [u16], at: usize, z: &[i16; 1024], from: usize, cols: usize, top: u16)
+// A row of any length.
+fn add_eights(samples: &mut [u16], at: usize, z: &[i16; 1024], from: usize, cols: usize, top: u16)
     requires { ⌜ (at + cols ≤ length (now samples)) × (from + cols ≤ 1024) ⌝ }
     ensures { λ _. ⌜ ((k : ℕ) → getD (now (samples .exit)) k 0 ≡ rowAfter top (λ j. getD (now (z .entry)) (from + j) (pos 0)) at cols (now (samples .entry)) k) ⌝ }
 {
     let eights = cols / 8;
     for q in 0..eights {
-        add8(samples, at + 8 * q, z, from + 8 * q, top);
+        add_few(samples, at + 8 * q, z, from + 8 * q, 8, top);
     }
     let done = 8 * eights;
     add_rest(samples, at + done, z, from + done, cols - done, top);
 }
 
-// The residuals of n0 rows and columns into the samples at (x, y), as far as the plane has them.
+// One row; of four by itself.
+fn add_row(samples: &mut [u16], at: usize, z: &[i16; 1024], from: usize, cols: usize, top: u16)
+    requires { ⌜ (at + cols ≤ length (now samples)) × (from + cols ≤ 1024) ⌝ }
+    ensures { λ _. ⌜ ((k : ℕ) → getD (now (samples .exit)) k 0 ≡ rowAfter top (λ j. getD (now (z .entry)) (from + j) (pos 0)) at cols (now (samples .entry)) k) ⌝ }
+{
+    if cols == 4 {
+        add_few(samples, at, z, from, 4, top);
+        return;
+    }
+    add_eights(samples, at, z, from, cols, top);
+}
+
+// The residuals of n0 rows and columns into the samples at (x, y), of which the plane has `rows` and `cols`.
+pub fn add_rows(
+    samples: &mut [u16],
+    plane: Plane,
+    x: usize,
+    y: usize,
+    z: &[i16; 1024],
+    n0: usize,
+    rows: usize,
+    cols: usize,
+    top: u16,
+)
+    requires { ⌜ SamplesOf plane (now samples) × (n0 ≤ 32) × (x < plane .width) × (rows ≡ cut (plane .height) y n0) × (cols ≡ cut (plane .width) x n0) ⌝ }
+    ensures { λ _. ⌜ now (samples .exit) ≡ planeAfter plane top x y n0 (λ i j. getD (now (z .entry)) (i * n0 + j) (pos 0)) (now (samples .entry)) ⌝ }
+{
+    for i in 0..rows {
+        add_row(samples, plane::place(plane, y + i, x), z, i * n0, cols, top);
+    }
+}
+
+// The same at any place, inside the plane or not.
 pub fn add_back(
     samples: &mut [u16],
     plane: Plane,
@@ -133,8 +165,15 @@ pub fn add_back(
     if cols == 0 {
         return;
     }
-    let rows = cut(plane.height, y, n0);
-    for i in 0..rows {
-        add_row(samples, plane::place(plane, y + i, x), z, i * n0, cols, top);
-    }
+    add_rows(
+        samples,
+        plane,
+        x,
+        y,
+        z,
+        n0,
+        cut(plane.height, y, n0),
+        cols,
+        top,
+    );
 }

@@ -79,20 +79,6 @@ by-front tx-type lossless block h =
     ∙ same-block 2 tx-type lossless f block (omega (arith, few-length block)) (omega arith) (few-at block) i j hi hj)
     (λ p q. fill-rest (pos 0) 16 g block p q ∙ sym (inverse2d-past 2 tx-type lossless block p q))
 
--- and of place 0 alone: one number sixteen times
-pub by-flat : (block : List ℤ) → length block ≡ 1024 → live 1 15 block ≡ false
-    → fill 16 (λ k. getD (replicate 16 (dcValue 2 (getD block 0 (pos 0)))) k (pos 0)) block ≡ inverse2d 2 0 false block
-by-flat block h d =
-    let v = dcValue 2 (getD block 0 (pos 0)) in
-    let g : ℕ → ℤ = λ k. getD (replicate 16 v) k (pos 0) in
-    let f : ℕ → ℕ → ℤ = λ i j. v in
-    block-ext 4 (fill 16 g block) (anew 4 f block) (length-fill 16 g block ∙ sym (anew-length 4 f block))
-    (λ i j hi hj. fill-below (pos 0) 16 g block (i * 4 + j) (below-sixteen i j hi hj) (omega (arith, below-sixteen i j hi hj))
-    ∙ getD-replicate 16 (i * 4 + j) v (pos 0) (below-sixteen i j hi hj)
-    ∙ sym (anew-at 4 f block (omega arith) i j hi hj))
-    (λ p q. fill-rest (pos 0) 16 g block p q ∙ sym (anew-past 4 f block p q))
-    ∙ sym (dc-only 2 (omega arith) (omega arith) block (omega arith) d)
-
 -- a token of 0 has a coefficient of 0
 zero-token : (size : ℕ) (dc : DcQuant) (ac : AcQuant) → badQuantizers dc ac ≡ false → (k : ℕ) → dequant size (quantizerAt dc ac k) (pos 0) ≡ pos 0
 zero-token size dc ac h k =
@@ -109,6 +95,55 @@ pub in-front : (n size : ℕ) (dc : DcQuant) (ac : AcQuant) (tokens z block : Li
 unfolding inFront
 in-front n size dc ac tokens z block e h = h ∙ ap (fill n (λ k. dequant size (quantizerAt dc ac k) (getD tokens k (pos 0)))) e
 
+-- ---- any numbers in the front of a block of 1,024 zeros
+module _ (size : ℕ) (f : ℕ → ℤ) (h : size ≤ 3) where
+  pub front-length : length (fill (area (size + 2)) f (replicate 1024 (pos 0))) ≡ 1024
+  front-length = length-fill (area (size + 2)) f (replicate 1024 (pos 0)) ∙ length-replicate 1024 (pos 0)
+
+  pub front-room : area (size + 2) ≤ length (fill (area (size + 2)) f (replicate 1024 (pos 0)))
+  front-room = rw front-length (area-most size h)
+
+  pub front-at : (k : ℕ) → k < area (size + 2) → getD (fill (area (size + 2)) f (replicate 1024 (pos 0))) k (pos 0) ≡ f k
+  front-at k l = fill-below (pos 0) (area (size + 2)) f (replicate 1024 (pos 0)) k l (rw (length-replicate 1024 (pos 0)) (omega (arith, area-most size h)))
+
+  front-past : (k : ℕ) → area (size + 2) ≤ k → getD (fill (area (size + 2)) f (replicate 1024 (pos 0))) k (pos 0) ≡ pos 0
+  front-past k l = fill-rest (pos 0) (area (size + 2)) f (replicate 1024 (pos 0)) k l ∙ zeros-at 1024 k
+
+  pub front-within : (m : ℕ) → ((k : ℕ) → k < area (size + 2) → Within m (f k)) → FirstWithin m (area (size + 2)) (fill (area (size + 2)) f (replicate 1024 (pos 0)))
+  front-within m w = record { each = λ k l. rw (front-at k l) (w k l) }
+
+  pub front-all : (m : ℕ) → ((k : ℕ) → k < area (size + 2) → Within m (f k)) → AllWithin m (fill (area (size + 2)) f (replicate 1024 (pos 0)))
+  front-all m w = record { each = λ k. go k (decLt k (area (size + 2))) }
+    where
+      go : (k : ℕ) → Dec (k < area (size + 2)) → Within m (getD (fill (area (size + 2)) f (replicate 1024 (pos 0))) k (pos 0))
+      go k (yes l) = rw (front-at k l) (w k l)
+      go k (no l) = rw (front-past k (omega arith)) within-zero
+
+  -- every number of its residual is within 2^62
+  pub front-residual : (tx-type : ℕ) (lossless : Bool) → Possible (size + 2) tx-type lossless → ((k : ℕ) → k < area (size + 2) → Within (2 ^ 31) (f k))
+      → AllWithin (2 ^ 62) (inverse2d (size + 2) tx-type lossless (fill (area (size + 2)) f (replicate 1024 (pos 0))))
+  front-residual tx-type lossless p w = record { each = λ k. go k (decLt k (area (size + 2))) }
+    where
+      go : (k : ℕ) → Dec (k < area (size + 2)) → Within (2 ^ 62) (getD (inverse2d (size + 2) tx-type lossless (fill (area (size + 2)) f (replicate 1024 (pos 0)))) k (pos 0))
+      go k (yes l) = within-le (omega arith) (inverse2d-within (size + 2) tx-type lossless (fill (area (size + 2)) f (replicate 1024 (pos 0))) p front-room (front-within (2 ^ 31) w) .each k l)
+      go k (no l) = rw (inverse2d-past (size + 2) tx-type lossless (fill (area (size + 2)) f (replicate 1024 (pos 0))) k (omega arith), front-past k (omega arith)) within-zero
+
+-- read out of such a block, they make it again
+pub front-again : (size : ℕ) (f : ℕ → ℤ) (z : List ℤ) → size ≤ 3 → z ≡ fill (area (size + 2)) f (replicate 1024 (pos 0))
+    → fill (area (size + 2)) (λ k. getD z k (pos 0)) (replicate 1024 (pos 0)) ≡ z
+front-again size f z h e =
+    ext-getD (pos 0) (fill (area (size + 2)) (λ k. getD z k (pos 0)) (replicate 1024 (pos 0))) z
+    (front-length size (λ k. getD z k (pos 0)) h ∙ sym (ap length e ∙ front-length size f h)) (λ k l. go k (decLt k (area (size + 2))))
+  where
+    go : (k : ℕ) → Dec (k < area (size + 2)) → getD (fill (area (size + 2)) (λ k. getD z k (pos 0)) (replicate 1024 (pos 0))) k (pos 0) ≡ getD z k (pos 0)
+    go k (yes l) = front-at size (λ k. getD z k (pos 0)) h k l
+    go k (no l) = front-past size (λ k. getD z k (pos 0)) h k (omega arith) ∙ sym (ap (λ (t : List ℤ). getD t k (pos 0)) e ∙ front-past size f h k (omega arith))
+
+pub coefs-again : (size : ℕ) (dc : DcQuant) (ac : AcQuant) (tokens z : List ℤ) → size ≤ 3 → z ≡ coefsOf size dc ac tokens
+    → fill (area (size + 2)) (λ k. getD z k (pos 0)) (replicate 1024 (pos 0)) ≡ coefsOf size dc ac tokens
+unfolding coefsOf
+coefs-again size dc ac tokens z h e = front-again size (λ k. dequant size (quantizerAt dc ac k) (getD tokens k (pos 0))) z h e ∙ e
+
 -- ---- tokens that are taken, in a block of 1,024
 module _ (size : ℕ) (dc : DcQuant) (ac : AcQuant) (tx-type : ℕ) (lossless : Bool) (tokens : List ℤ) (a : Accepted size dc ac tx-type lossless tokens) where
   pub size-most : size ≤ 3
@@ -116,7 +151,7 @@ module _ (size : ℕ) (dc : DcQuant) (ac : AcQuant) (tx-type : ℕ) (lossless : 
 
   pub block-length : length (inFront (area (size + 2)) size dc ac tokens) ≡ 1024
   unfolding inFront
-  block-length = length-fill (area (size + 2)) _ (replicate 1024 (pos 0)) ∙ length-replicate 1024 (pos 0)
+  block-length = front-length size _ size-most
 
   pub block-room : area (size + 2) ≤ length (inFront (area (size + 2)) size dc ac tokens)
   block-room = rw block-length (area-most size size-most)
@@ -129,23 +164,20 @@ module _ (size : ℕ) (dc : DcQuant) (ac : AcQuant) (tx-type : ℕ) (lossless : 
   block-at : (k : ℕ) → k < area (size + 2) → getD (inFront (area (size + 2)) size dc ac tokens) k (pos 0) ≡ getD (dequantAll size dc ac tokens) k (pos 0)
   unfolding inFront dequantAll
   block-at k h =
-      fill-below (pos 0) (area (size + 2)) _ (replicate 1024 (pos 0)) k h (rw (length-replicate 1024 (pos 0)) (omega (arith, area-most size size-most)))
+      front-at size _ size-most k h
       ∙ sym (getD-tabulate _ (length tokens) k (pos 0) (rw (a .all) h))
-
-  block-past : (k : ℕ) → area (size + 2) ≤ k → getD (inFront (area (size + 2)) size dc ac tokens) k (pos 0) ≡ pos 0
-  unfolding inFront
-  block-past k h = fill-rest (pos 0) (area (size + 2)) _ (replicate 1024 (pos 0)) k h ∙ zeros-at 1024 k
 
   pub block-within : FirstWithin (2 ^ 31) (area (size + 2)) (inFront (area (size + 2)) size dc ac tokens)
   block-within = record { each = λ k h. rw (block-at k h) (within-abs (omega (arith, a .coefs k (rw (a .all) h)))) }
 
+  coef-within : (k : ℕ) → k < area (size + 2) → Within (2 ^ 31) (dequant size (quantizerAt dc ac k) (getD tokens k (pos 0)))
+  unfolding inFront
+  coef-within k h = rw (front-at size (λ k. dequant size (quantizerAt dc ac k) (getD tokens k (pos 0))) size-most k h) at (block-within .each k h)
+
   -- every number of its residual is within 2^62
   pub residual-within : AllWithin (2 ^ 62) (inverse2d (size + 2) tx-type lossless (inFront (area (size + 2)) size dc ac tokens))
-  residual-within = record { each = λ k. go k (decLt k (area (size + 2))) }
-    where
-      go : (k : ℕ) → Dec (k < area (size + 2)) → Within (2 ^ 62) (getD (inverse2d (size + 2) tx-type lossless (inFront (area (size + 2)) size dc ac tokens)) k (pos 0))
-      go k (yes h) = within-le (omega arith) (inverse2d-within (size + 2) tx-type lossless (inFront (area (size + 2)) size dc ac tokens) (a .possible) block-room block-within .each k h)
-      go k (no h) = rw (inverse2d-past (size + 2) tx-type lossless (inFront (area (size + 2)) size dc ac tokens) k (omega arith), block-past k (omega arith)) within-zero
+  unfolding inFront
+  residual-within = front-residual size _ size-most tx-type lossless (a .possible) coef-within
 
   pub residual-at : (i j : ℕ) → i < side (size + 2) → j < side (size + 2)
       → getD (inverse2d (size + 2) tx-type lossless (inFront (area (size + 2)) size dc ac tokens)) (i * side (size + 2) + j) (pos 0) ≡ getD (residual size dc ac tx-type lossless tokens) (i * side (size + 2) + j) (pos 0)
@@ -188,14 +220,6 @@ module _ (dc : DcQuant) (ac : AcQuant) (tx-type : ℕ) (lossless : Bool) (tokens
 
     pub filled-fine : {block : List ℤ} → block ≡ inFront 16 0 dc ac tokens → (length block ≡ 1024) × FirstWithin (2 ^ 31) 16 block
     filled-fine f = rw f (block-length 0 dc ac tx-type lossless tokens a, block-within 0 dc ac tx-type lossless tokens a)
-
-    -- where only place 0 of the tokens is live, so it is of the coefficients
-    pub filled-dead : {block : List ℤ} → block ≡ inFront 16 0 dc ac tokens → live 1 15 tokens ≡ false → live 1 15 block ≡ false
-    unfolding live inFront
-    filled-dead f d =
-        rw f
-        (none-live _ 15
-        (λ k l. rw (fill-below (pos 0) 16 (λ k. dequant 0 (quantizerAt dc ac k) (getD tokens k (pos 0))) (replicate 1024 (pos 0)) (1 + k) (omega arith) (rw (length-replicate 1024 (pos 0)) (omega arith)), dead-at 1 15 tokens d k l, zero-token 0 dc ac (a .quantizers) (1 + k))))
 
     -- and the residual is that of the sixteen coefficients
     pub made : (other : ℕ) (whole : Bool) {block after : List ℤ} → block ≡ inFront 16 0 dc ac tokens → after ≡ inverse2d 2 other whole block
@@ -258,21 +282,6 @@ fill-over n g u x h =
     go : (k : ℕ) → k < length u → Dec (k < n) → getD (fill n g (set u 0 x)) k (pos 0) ≡ getD (fill n g u) k (pos 0)
     go k l (yes m) = fill-below (pos 0) n g (set u 0 x) k m (omega (arith, length-set u 0 x)) ∙ sym (fill-below (pos 0) n g u k m l)
     go k l (no m) = fill-rest (pos 0) n g (set u 0 x) k (omega arith) ∙ getD-set-other u 0 k x (pos 0) (λ e. absurd (omega arith)) ∙ sym (fill-rest (pos 0) n g u k (omega arith))
-
--- one number at every place of a block of 1,024 zeros
-module _ (size : ℕ) (v : ℤ) (h : size ≤ 3) where
-  pub flat-length : length (fill (area (size + 2)) (λ k. v) (replicate 1024 (pos 0))) ≡ 1024
-  flat-length = length-fill (area (size + 2)) (λ k. v) (replicate 1024 (pos 0)) ∙ length-replicate 1024 (pos 0)
-
-  pub flat-number : (k : ℕ) → k < area (size + 2) → getD (fill (area (size + 2)) (λ k. v) (replicate 1024 (pos 0))) k (pos 0) ≡ v
-  flat-number k l = fill-below (pos 0) (area (size + 2)) (λ k. v) (replicate 1024 (pos 0)) k l (rw (length-replicate 1024 (pos 0)) (omega (arith, area-most size h)))
-
-  pub flat-within : Within (2 ^ 62) v → AllWithin (2 ^ 62) (fill (area (size + 2)) (λ k. v) (replicate 1024 (pos 0)))
-  flat-within b = record { each = λ k. go k (decLt k (area (size + 2))) }
-    where
-      go : (k : ℕ) → Dec (k < area (size + 2)) → Within (2 ^ 62) (getD (fill (area (size + 2)) (λ k. v) (replicate 1024 (pos 0))) k (pos 0))
-      go k (yes l) = rw (flat-number k l) b
-      go k (no l) = rw (fill-rest (pos 0) (area (size + 2)) (λ k. v) (replicate 1024 (pos 0)) k (omega arith), zeros-at 1024 k) within-zero
 
 -- ---- the type is 0 and place 0 alone is live: one number, added everywhere
 pub some-token : (size : ℕ) → 1 ≤ area (size + 2)

@@ -1,26 +1,29 @@
 use answers::Answer;
 use answers::area;
 use answers::code;
+use answers::magnitude;
 use answers::side;
 use blocks::any_live;
 use plane::Plane;
 use quant::AcQuant;
 use quant::DcQuant;
+use residual16::Made;
 ghost use mathlib.Core.Bool.{true, false};
 ghost use mathlib.Core.Path.{_≡_};
 ghost use Prim.Native.Nat.{_+_, _-_, _*_, _^_, _≤_};
 ghost use lib.IntN.{pos, natAbs};
 ghost use lib.ListN.{length, getD, replicate};
 ghost use Rattle.whole.specs.Lists.{tabulate, fill};
+ghost use Rattle.whole.specs.Within.{Within};
 ghost use Rattle.whole.specs.Inner.{AllWithin};
 ghost use Rattle.answers.specs.Bad.{badDepth, badQuantizer};
 ghost use Rattle.answers.specs.Limits.{COEF_LIMIT, codeable};
 ghost use Rattle.quant.specs.Places.{quantizerAt};
 ghost use Rattle.quant.specs.Token.{dequant};
-ghost use Rattle.plane.specs.Place.{SamplesOf};
+ghost use Rattle.plane.specs.Place.{SamplesOf, cut};
 ghost use Rattle.plane.specs.Plane.{planeAfter};
-ghost use Rattle.blocks.specs.Block.{live, onlyDc};
-ghost use Rattle.blocks.specs.Inner.{FirstWithin, dcValue};
+ghost use Rattle.blocks.specs.Block.{onlyDc};
+ghost use Rattle.blocks.specs.Inner.{FirstWithin, dcValue, Possible};
 ghost use Rattle.blocks.specs.Inverse.{inverse2d};
 ghost use Rattle.residual16.specs.Inner.{Lent};
 ghost use Rattle.reconstruct.specs.Inner.{Accepted, Tried};
@@ -75,7 +78,7 @@ fn lossy4(block: &mut [i64; 1024], tx_type: u8)
     ensures { λ _. ⌜ now (block .exit) ≡ inverse2d 2 «tx_type» false (now (block .entry)) ⌝ }
 {
     let mut few = front(block);
-    small_passes::inverse4(&mut few, tx_type);
+    small_passes::lossy_passes(&mut few, tx_type);
     put_front(block, &few);
 }
 
@@ -83,15 +86,6 @@ fn sixteen_of(v: i64) -> [i64; 16]
     ensures { λ r. ⌜ r ≡ replicate 16 v ⌝ }
 {
     [v; 16]
-}
-
-// The same of type 0 with place 0 alone live: one number everywhere.
-fn flat4(block: &mut [i64; 1024])
-    requires { ⌜ (length (now block) ≡ 1024) × FirstWithin (2 ^ 31) 16 (now block) × (live 1 15 (now block) ≡ false) ⌝ }
-    ensures { λ _. ⌜ now (block .exit) ≡ inverse2d 2 0 false (now (block .entry)) ⌝ }
-{
-    let few = sixteen_of(dc::dc_value(block[0], 2));
-    put_front(block, &few);
 }
 
 // The residual of 4 by 4 tokens that are taken, in a block of zeros. Tokens of 0 at the end need no product, by literal counts: so the
@@ -120,11 +114,6 @@ fn residual4(
         }
         tokens::dequantize(block, tokens, 4, 0, dc_quant, ac_quant);
         wht4(block);
-        return;
-    }
-    if only_dc(tokens, 16, tx_type) {
-        tokens::dequantize(block, tokens, 1, 0, dc_quant, ac_quant);
-        flat4(block);
         return;
     }
     tokens::dequantize(block, tokens, 16, 0, dc_quant, ac_quant);
@@ -163,6 +152,69 @@ fn add_back4(samples: &mut [u16], plane: Plane, x: usize, y: usize, block: &[i64
     add_cut4(samples, plane, x, y, &few, top);
 }
 
+// One number added to a whole block of 4 by 4, in 16 bits: the block is written at literal places only, and costs nothing.
+fn flat_whole4(samples: &mut [u16], plane: Plane, x: usize, y: usize, v: i16, top: u16)
+    requires { ⌜ SamplesOf plane (now samples) × (cut (plane .height) y 4 ≡ 4) × (cut (plane .width) x 4 ≡ 4) ⌝ }
+    ensures { λ _. ⌜ now (samples .exit) ≡ planeAfter plane top x y 4 (λ i j. v) (now (samples .entry)) ⌝ }
+{
+    let mut z = [0i16; 1024];
+    residual16::flat(&mut z, 16, v);
+    plane16::add_rows(samples, plane, x, y, &z, 4, 4, 4, top);
+}
+
+// The same of any number, and of a block that is cut.
+fn flat_any4(samples: &mut [u16], plane: Plane, x: usize, y: usize, v: i64, top: u16)
+    requires { ⌜ SamplesOf plane (now samples) × Within (2 ^ 62) v ⌝ }
+    ensures { λ _. ⌜ now (samples .exit) ≡ planeAfter plane top x y 4 (λ i j. v) (now (samples .entry)) ⌝ }
+{
+    let mut block = [0i64; 1024];
+    let few = sixteen_of(v);
+    put_front(&mut block, &few);
+    let back = front(&block);
+    add_cut4(samples, plane, x, y, &back, top);
+}
+
+// The block of 4 by 4 at (x, y) is in the plane with all its rows and columns.
+fn whole4(plane: Plane, x: usize, y: usize) -> bool
+    ensures { λ r. ⌜ (r ≡ true → (cut (plane .height) y 4 ≡ 4) × (cut (plane .width) x 4 ≡ 4)) ⌝ }
+{
+    if plane::cut(plane.height, y, 4) != 4 {
+        return false;
+    }
+    plane::cut(plane.width, x, 4) == 4
+}
+
+// One number added to a block of 4 by 4.
+fn add_flat4(samples: &mut [u16], plane: Plane, x: usize, y: usize, v: i64, top: u16)
+    requires { ⌜ SamplesOf plane (now samples) × Within (2 ^ 62) v ⌝ }
+    ensures { λ _. ⌜ now (samples .exit) ≡ planeAfter plane top x y 4 (λ i j. v) (now (samples .entry)) ⌝ }
+{
+    if whole4(plane, x, y) {
+        if magnitude(v) < 32768 {
+            flat_whole4(samples, plane, x, y, v as i16, top);
+            return;
+        }
+    }
+    flat_any4(samples, plane, x, y, v, top);
+}
+
+// Only the token at place 0 is live, and the type is 0, 4 by 4: every number of the residual is the same.
+fn reconstruct_flat4(
+    samples: &mut [u16],
+    plane: Plane,
+    x: usize,
+    y: usize,
+    token: i64,
+    dc_quant: DcQuant,
+    top: u16,
+)
+    requires { ⌜ SamplesOf plane (now samples) × (badQuantizer («dc_quant» .0) ≡ false) × (natAbs token ≤ codeable 12) × (natAbs (dequant 0 («dc_quant» .0) token) ≤ COEF_LIMIT) ⌝ }
+    ensures { λ _. ⌜ now (samples .exit) ≡ planeAfter plane top x y 4 (λ i j. dcValue 2 (dequant 0 («dc_quant» .0) token)) (now (samples .entry)) ⌝ }
+{
+    let v = dc::dc_value(dc_quant.dequant(token, 0), 2);
+    add_flat4(samples, plane, x, y, v, top);
+}
+
 // Tokens that are taken, 4 by 4.
 fn reconstruct_4(
     samples: &mut [u16],
@@ -179,6 +231,12 @@ fn reconstruct_4(
     requires { ⌜ SamplesOf plane (now samples) × Accepted 0 «dc_quant» «ac_quant» «tx_type» lossless (now tokens) ⌝ }
     ensures { λ _. ⌜ now (samples .exit) ≡ added plane top x y 0 «dc_quant» «ac_quant» «tx_type» lossless (now (tokens .entry)) (now (samples .entry)) ⌝ }
 {
+    if !lossless {
+        if only_dc(tokens, 16, tx_type) {
+            reconstruct_flat4(samples, plane, x, y, tokens[0], dc_quant, top);
+            return;
+        }
+    }
     let mut block = [0i64; 1024];
     residual4(&mut block, tokens, dc_quant, ac_quant, tx_type, lossless);
     add_back4(samples, plane, x, y, &block, top);
@@ -297,7 +355,28 @@ fn add_residual(
     );
 }
 
-// Whether the block is done by 16-bit lines, which need no look at the limits: no number on the way is near to one. Else nothing is changed.
+// The residual of coefficients of 16 bits whose total is too great for lines of 16 bits, into the plane.
+fn add_wide(
+    samples: &mut [u16],
+    plane: Plane,
+    x: usize,
+    y: usize,
+    size: u32,
+    z: &[i16; 1024],
+    tx_type: u8,
+    top: u16,
+)
+    requires { ⌜ SamplesOf plane (now samples) × (1 ≤ size) × Possible (size + 2) «tx_type» false ⌝ }
+    ensures { λ _. ⌜ now (samples .exit) ≡ planeAfter plane top x y (side (size + 2)) (λ i j. getD (inverse2d (size + 2) «tx_type» false (fill (area (size + 2)) (λ k. getD (now (z .entry)) k (pos 0)) (replicate 1024 (pos 0)))) (i * side (size + 2) + j) (pos 0)) (now (samples .entry)) ⌝ }
+{
+    let mut block = [0i64; 1024];
+    residual16::widen(&mut block, z, area(size + 2));
+    passes::both_passes(&mut block, size + 2, tx_type);
+    let n0 = side(size + 2);
+    plane::add_back(samples, plane, x, y, &block, n0, n0, top);
+}
+
+// Whether the block is done by numbers of 16 bits, which need no look at the limits: none is near to one. Else nothing is changed.
 fn quick(
     samples: &mut [u16],
     plane: Plane,
@@ -317,10 +396,12 @@ fn quick(
         return false;
     }
     let mut z = [0i16; 1024];
-    if !residual16::residual(&mut z, tokens, size, dc_quant, ac_quant, tx_type) {
-        return false;
+    let made = residual16::residual(&mut z, tokens, size, dc_quant, ac_quant, tx_type);
+    match made {
+        Made::Residual => plane16::add_back(samples, plane, x, y, &z, side(size + 2), top),
+        Made::Coefficients => add_wide(samples, plane, x, y, size, &z, tx_type, top),
+        Made::Nothing => return false,
     }
-    plane16::add_back(samples, plane, x, y, &z, side(size + 2), top);
     true
 }
 

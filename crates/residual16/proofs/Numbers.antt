@@ -31,9 +31,15 @@ short-within z h = let a : P z < 32768 = sfits-P h in record { hi = omega arith;
 pub never : {A : Type 0} → false ≡ true → A
 never e = absurd (let z : _≡_ {A = ℕ} 0 1 = cc in omega arith)
 
--- a product of at most 32,767
+-- a product of at most 32,767, and its token
+pub product-within : (t q : ℤ) → natAbs t * natAbs q ≤ 32767 → Within 32767 (t *ℤ q)
+product-within t q h = within-abs (rw (abs-mul t q) h)
+
 pub product-short : (t q : ℤ) → natAbs t * natAbs q ≤ 32767 → SFits w16 (t *ℤ q)
-product-short t q h = within-sfits {m = 32767} (lit< tt) (within-abs (rw (abs-mul t q) h))
+product-short t q h = within-sfits {m = 32767} (lit< tt) (product-within t q h)
+
+pub token-short : (t q : ℕ) → 1 ≤ q → t * q ≤ 32767 → t ≤ 32767
+token-short t q l h = let k : t * 1 ≤ t * q = NatL.mul-le-mul (NatL.le-refl t) l in omega arith
 
 -- a smaller token has a smaller product
 pub product-less : (m t q : ℕ) → t ≤ m → m * q ≤ 32767 → t * q ≤ 32767

@@ -14,6 +14,8 @@ use Rattle.quant.specs.Places.{quantizerAt}
 use Rattle.quant.specs.Token.{dequant}
 use Rattle.blocks.specs.Inner.{Possible}
 use Rattle.blocks.specs.Inverse.{inverse2d}
+use Rattle.residual16.specs.declared.Made.{Made}
+use Rattle.residual16.specs.declared.Made.the-variants.{Residual, Coefficients, Nothing}
 
 -- the coefficients of a block's tokens, in front of zeros
 unfoldable pub coefsOf : ℕ → DcQuant → AcQuant → List ℤ → List ℤ
@@ -31,3 +33,14 @@ pub record Lent (size : ℕ) (dc : DcQuant) (ac : AcQuant) (tx-type : ℕ) (toke
 pub record Served (size : ℕ) (dc : DcQuant) (ac : AcQuant) (tx-type : ℕ) (tokens z : List ℤ) : Type 0 where
   pub small : (k : ℕ) → k < length tokens → natAbs (getD tokens k (pos 0)) ≤ 16384
   pub made : z ≡ inverse2d (size + 2) tx-type false (coefsOf size dc ac tokens)
+
+-- the same, and z is the coefficients
+pub record Dequantized (size : ℕ) (dc : DcQuant) (ac : AcQuant) (tokens z : List ℤ) : Type 0 where
+  pub small : (k : ℕ) → k < length tokens → natAbs (getD tokens k (pos 0)) ≤ 16384
+  pub made : z ≡ coefsOf size dc ac tokens
+
+-- what stands in z
+abbrev pub Stands : ℕ → DcQuant → AcQuant → ℕ → List ℤ → List ℤ → Made → Type 0
+Stands size dc ac tx-type tokens z Residual = Served size dc ac tx-type tokens z
+Stands size dc ac tx-type tokens z Coefficients = Dequantized size dc ac tokens z
+Stands size dc ac tx-type tokens z Nothing = Unit {0}

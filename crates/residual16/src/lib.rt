@@ -11,6 +11,7 @@ ghost use lib.Signed.{quotZ};
 ghost use lib.ListN.{length, getD, replicate, set};
 ghost use Rattle.whole.specs.Lists.{fill};
 ghost use Rattle.whole.specs.Round.{Round2};
+ghost use Rattle.whole.specs.Within.{Within};
 ghost use Rattle.answers.specs.Bad.{badQuantizer};
 ghost use Rattle.answers.specs.Limits.{codeable};
 ghost use Rattle.answers.specs.Sizes.{area};
@@ -18,7 +19,7 @@ ghost use Rattle.quant.specs.Token.{dqDenom, dequant};
 ghost use Rattle.blocks.specs.Inner.{Possible, dcValue};
 ghost use Rattle.blocks.specs.Inverse.{inverse2d};
 ghost use Rattle.weights.specs.Inner.{total};
-ghost use Rattle.residual16.specs.Inner.{Lent, Served};
+ghost use Rattle.residual16.specs.Inner.{Lent, Stands};
 
 // A power of two whose product by the quantizer is of 16 bits.
 fn reach(quantizer: u64) -> u64
@@ -72,7 +73,8 @@ fn coefficient(token: i64, quantizer: i32, size: u32) -> i16
     requires { ⌜ (badQuantizer quantizer ≡ false) × (natAbs token ≤ codeable 12) × (natAbs token * natAbs quantizer ≤ 32767) ⌝ }
     ensures { λ r. ⌜ r ≡ dequant size quantizer token ⌝ }
 {
-    let product = token * (quantizer as i64);
+    let t = token as i16;
+    let product = (t as i32) * quantizer;
     divided(product as i16, size)
 }
 
@@ -108,7 +110,7 @@ fn round(z: &mut [i16; 1024], count: usize, shift: u32)
 }
 
 // One number at every place.
-fn flat(z: &mut [i16; 1024], count: usize, v: i16)
+pub fn flat(z: &mut [i16; 1024], count: usize, v: i16)
     requires { ⌜ count ≤ 1024 ⌝ }
     ensures { λ _. ⌜ now (z .exit) ≡ fill count (λ k. v) (now (z .entry)) ⌝ }
 {
@@ -137,7 +139,26 @@ fn passes(z: &mut [i16; 1024], n: u32, tx_type: u8)
     round(z, area(n), blocks::rounding_bits(n));
 }
 
-// The residual of a block's tokens into a block of zeros: true where it is made. Else another way has to serve, whatever stands in z.
+// The first `count` numbers of z at 64 bits. As numbers of z they are of 16.
+pub fn widen(block: &mut [i64; 1024], z: &[i16; 1024], count: usize)
+    requires { ⌜ count ≤ 1024 ⌝ }
+    ensures made { λ _. ⌜ now (block .exit) ≡ fill count (λ k. getD (now (z .entry)) k (pos 0)) (now (block .entry)) ⌝ }
+    ensures told { λ _. ⌜ ((k : ℕ) → k < count → Within 32768 (getD (now (z .entry)) k (pos 0))) ⌝ }
+{
+    for k in 0..count {
+        let x = narrow::wide(z[k]);
+        block[k] = x as i64;
+    }
+}
+
+// What stands in the block: the residual, the coefficients, or nothing that is of use.
+pub enum Made {
+    Residual,
+    Coefficients,
+    Nothing,
+}
+
+// The residual of a block's tokens into a block of zeros; where only their total is too great for it, the coefficients.
 pub fn residual(
     z: &mut [i16; 1024],
     tokens: &[i64],
@@ -145,9 +166,9 @@ pub fn residual(
     dc_quant: DcQuant,
     ac_quant: AcQuant,
     tx_type: u8,
-) -> bool
+) -> Made
     requires { ⌜ (now z ≡ replicate 1024 (pos 0)) × Lent size «dc_quant» «ac_quant» «tx_type» (now tokens) ⌝ }
-    ensures { λ r. ⌜ (r ≡ true → Served size «dc_quant» «ac_quant» «tx_type» (now (tokens .entry)) (now (z .exit))) ⌝ }
+    ensures { λ r. ⌜ Stands size «dc_quant» «ac_quant» «tx_type» (now (tokens .entry)) (now (z .exit)) r ⌝ }
 {
     let dc = dc_quant.0;
     let ac = ac_quant.0;
@@ -155,19 +176,19 @@ pub fn residual(
     let most = reach_both(dc, ac);
     if dc::only_dc(tokens, count, tx_type) {
         if most < magnitude(tokens[0]) {
-            return false;
+            return Made::Nothing;
         }
         residual_dc(z, tokens[0], size, dc);
-        return true;
+        return Made::Residual;
     }
     if most + most <= blocks::or_plus_most(tokens, 0, count, most) {
-        return false;
+        return Made::Nothing;
     }
     dequantize(z, tokens, count, size, ac);
     z[0] = coefficient(tokens[0], dc, size);
     if 31883 < narrow_lines::total(z, count) {
-        return false;
+        return Made::Coefficients;
     }
     passes(z, size + 2, tx_type);
-    true
+    Made::Residual
 }

@@ -131,6 +131,41 @@ pub fn wht_passes(block: &mut [i64])
     wht_columns(block);
 }
 
+// All four rows with no test: rows of a stream's blocks are live or not as it comes, and a test would often be guessed wrong.
+fn all_rows2(block: &mut [i64], use_dct: bool)
+    requires { ⌜ (16 ≤ length (now block)) × FirstWithin (2 ^ 31) 16 (now block) ⌝ }
+    ensures { λ _. ⌜ now (block .exit) ≡ rows (apply (lossy «use_dct») 2) 4 (now (block .entry)) ⌝ }
+{
+    let mut t = [0i64; 32];
+    for i in 0..4usize {
+        blocks::load(&mut t, block, i * 4, 1, 4);
+        line2(&mut t, use_dct);
+        blocks::store(block, &t, i * 4, 1, 4);
+    }
+}
+
+// All columns, as `columns2`: a place of its own for each of the two callers, so that both are inlined.
+fn all_columns2(block: &mut [i64], use_dct: bool)
+    requires { ⌜ (16 ≤ length (now block)) × FirstWithin (2 ^ 37) 16 (now block) ⌝ }
+    ensures { λ _. ⌜ now (block .exit) ≡ columns (apply (lossy «use_dct») 2) (λ z. Round2 z 4) 4 (now (block .entry)) ⌝ }
+{
+    let mut t = [0i64; 32];
+    for j in 0..4usize {
+        blocks::load(&mut t, block, j, 4, 4);
+        line2(&mut t, use_dct);
+        blocks::store_rounded(block, &t, j, 4, 4, 4);
+    }
+}
+
+// The residual of a block that is not lossless, for reconstruction.
+pub fn lossy_passes(block: &mut [i64], tx_type: u8)
+    requires { ⌜ (16 ≤ length (now block)) × FirstWithin (2 ^ 31) 16 (now block) ⌝ }
+    ensures { λ _. ⌜ now (block .exit) ≡ inverse2d 2 «tx_type» false (now (block .entry)) ⌝ }
+{
+    all_rows2(block, blocks::row_dct(tx_type));
+    all_columns2(block, blocks::column_dct(tx_type));
+}
+
 fn passes2(block: &mut [i64], tx_type: u8)
     requires { ⌜ (16 ≤ length (now block)) × FirstWithin (2 ^ 31) 16 (now block) ⌝ }
     ensures { λ _. ⌜ now (block .exit) ≡ inverse2d 2 «tx_type» false (now (block .entry)) ⌝ }

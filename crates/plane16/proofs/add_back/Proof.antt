@@ -1,119 +1,21 @@
 -- `plane16::add_back` meets its contract.
-use mathlib.Core.Path.{_≡_, refl, sym, ap, _∙_}
-use Prim.Native.Nat.{ℕ, min, _+_, _*_, _≤_, _<_, _-_}
-use native.Mathlib.Nat as NatL
-use native.Mathlib.Omega.{arith}
+use mathlib.Core.Path.{sym, _∙_}
 use lib.IntN.{pos}
-use lib.ListN.{length, getD}
+use lib.ListN.{getD}
+use Prim.Native.Nat.{_+_, _*_}
 use borrow.Author.Needs.{needs}
-use Rattle.plane.specs.Place.{placeOf, cut}
-use Rattle.plane.specs.Plane.{sampleAfter}
-use Rattle.plane.proofs.Block.{block-none, block-more, by-rows, no-column}
+use Rattle.plane.proofs.Block.{no-column}
 use Rattle.plane16.proofs.add_back.Statement.{statement}
 use Rattle.plane16.proofs.add_back.Tie as tie
 
-abbrev Inv-loop : tie.InvT-loop
-Inv-loop samples₀ plane x y z n0 top cols rows i₀ samples i =
-    ((i ≤ rows) × (length samples ≡ length samples₀))
-    × ((row column : ℕ) → column < plane .stride
-    → getD samples (placeOf plane row column) 0
-    ≡ sampleAfter top (λ i j. getD z (i * n0 + j) (pos 0)) x y i cols samples₀ row column (placeOf plane row column))
-
-abbrev μ-loop : tie.MeasureT-loop
-μ-loop samples₀ plane x y z n0 top cols rows i₀ samples i = rows - i
-
-returns : tie.Need-returns Inv-loop μ-loop
+returns : tie.Need-returns
 returns c =
     let s = c .before .before .before in
     let a = s .args in
     no-column (a .plane) (a .samples .now) (s .pre .0) (a .top) (a .x) (a .y) (a .n0) (λ i j. getD (a .z .now) (i * a .n0 + j) (pos 0))
     (sym (c .before .cut .ensures) ∙ c .if1 .taken)
 
-loop-holds : tie.Need-loop-holds Inv-loop μ-loop
-loop-holds c =
-    let a = c .before .before .before .before .args in (
-      (omega arith, refl),
-      λ row column l.
-          block-none (a .top) (λ i j. getD (a .z .now) (i * a .n0 + j) (pos 0)) (a .x) (a .y) (a .samples .now) (c .before .before .cut .result) row column
-          (placeOf (a .plane) row column),
-    )
-
-module _ (c : tie.After-add-row-arg Inv-loop μ-loop) where
-  abbrev l : tie.At-loop Inv-loop μ-loop
-  l = c .before .before
-
-  abbrev s : tie.Start Inv-loop μ-loop
-  s = l .before .before .before .before .before
-
-  -- a row of the plane, and a row of the block
-  row-in : (s .args .y + l .loop .i < s .args .plane .height) × (l .loop .i < s .args .n0)
-  row-in = (omega (arith, l .before .cut2 .ensures, c .before .loop-test .taken), omega (arith, l .before .cut2 .ensures, c .before .loop-test .taken))
-
-  column-in : (s .args .x + l .before .before .before .cut .result ≤ s .args .plane .width) × (l .before .before .before .cut .result ≤ s .args .n0)
-  column-in = (omega (arith, l .before .before .before .cut .ensures, l .before .before .if1 .left), omega (arith, l .before .before .before .cut .ensures))
-
-place-requires : tie.Need-place-requires Inv-loop μ-loop
-place-requires c κs =
-    let p = s c .pre .0 in
-    (p .long, omega (arith, p .high, row-in c .0), omega (arith, p .wide, p .long, column-in c .0))
-
-mul-add-row : tie.Need-mul-add-row Inv-loop μ-loop
-mul-add-row c =
-    let d = c .before in
-    let h : l d .loop .i ≤ 32 = omega (arith, row-in d .1, s d .pre .1) in
-    let m : l d .loop .i * s d .args .n0 ≤ 32 * 32 = NatL.mul-le-mul h (s d .pre .1) in omega arith
-
-add-row-requires : tie.Need-add-row-requires Inv-loop μ-loop
-add-row-requires c κs =
-    let d = c .before in
-    let a = s d .args in
-    let p = s d .pre .0 in
-    let i = l d .loop .i in
-    let m : (a .y + i + 1) * a .plane .stride ≤ a .plane .height * a .plane .stride = NatL.mul-le-mul-right (a .plane .stride) (omega (arith, row-in d .0)) in
-    let h : i + 1 ≤ 32 = omega (arith, row-in d .1, s d .pre .1) in
-    let n : (i + 1) * a .n0 ≤ 32 * 32 = NatL.mul-le-mul h (s d .pre .1) in (
-      omega (arith, c .place .ensures, p .all, l d .loop .inv .0 .1, column-in d .0, p .wide, NatL.add-mul (a .y + i) 1 (a .plane .stride), NatL.mul-comm (a .plane .stride) (a .plane .height)),
-      omega (arith, NatL.add-mul i 1 (a .n0), column-in d .1),
-    )
-
-loop-again : tie.Need-loop-again Inv-loop μ-loop
-loop-again c =
-    let r = c .before .before in
-    let d = r .before .before in
-    let a = s d .args in
-    let t = l d .loop in (
-      (omega arith, r .add-row .kept .0 ∙ t .inv .0 .1),
-      block-more (a .top) (λ i j. getD (a .z .now) (i * a .n0 + j) (pos 0)) (a .x) (a .y) (a .samples .now) (a .plane) (l d .before .before .before .cut .result) (t .i)
-          (omega (arith, s d .pre .0 .wide, column-in d .0)) (t .samples) (r .add-row .last .0) (t .inv .1)
-          (rw (r .before .place .ensures) at (r .add-row .ensures)),
-    )
-
-returns-2 : tie.Need-returns-2 Inv-loop μ-loop
-returns-2 c =
-    let t = c .before in
-    let k = t .before in
-    let s = k .before .before .before .before in
-    let a = s .args in
-    let e : t .loop .i ≡ cut (a .plane .height) (a .y) (a .n0) = omega (arith, k .cut2 .ensures) in
-    by-rows (a .plane) (a .samples .now) (s .pre .0) (a .top) (a .x) (a .y) (a .n0) (λ i j. getD (a .z .now) (i * a .n0 + j) (pos 0))
-    (t .loop .samples) (t .loop .inv .0 .1) (rw (e, k .before .before .cut .ensures) at (t .loop .inv .1))
-
 pub add-back-spec : {M : Type 1} → statement M
 add-back-spec =
     tie.close
-    (tie.spec
-    Inv-loop
-    μ-loop
-    (λ c κs. search needs)
-    returns
-    (λ c κs. search needs)
-    loop-holds
-    (λ c. omega (arith, s c .pre .0 .high, row-in c .0))
-    place-requires
-    mul-add-row
-    add-row-requires
-    (λ c. search needs)
-    (λ c. omega (arith, c .before .before .before .before .before .loop-test .taken))
-    loop-again
-    (λ c. search needs)
-    returns-2)
+    (tie.spec (λ c κs. search needs) returns (λ c κs. search needs) (λ c κs. search needs) (λ c. search needs) (λ c. search needs))

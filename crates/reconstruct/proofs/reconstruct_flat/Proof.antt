@@ -1,6 +1,6 @@
 -- `reconstruct::reconstruct_flat` meets its contract.
 use mathlib.Core.Path.{_≡_, refl, sym, ap, _∙_}
-use Prim.Native.Nat.{ℕ, _+_, _*_, _≤_, _<_}
+use Prim.Native.Nat.{ℕ, _+_, _*_, _^_, _≤_, _<_}
 use native.Mathlib.Nat as NatL
 use native.Mathlib.Omega.{arith}
 use lib.IntN.{ℤ, pos}
@@ -15,7 +15,7 @@ use Rattle.blocks.specs.Inner.{dcValue}
 use Rattle.plane.proofs.Block.{same-residuals}
 use borrow.Author.Needs.{needs}
 use Rattle.tokens.proofs.Sizes.{side-most, area-most, in-block}
-use Rattle.reconstruct.proofs.Residual.{dcValue-within, flat-length, flat-number, flat-within}
+use Rattle.reconstruct.proofs.Residual.{dcValue-within, front-length, front-at, front-all}
 use Rattle.reconstruct.proofs.reconstruct_flat.Statement.{statement}
 use Rattle.reconstruct.proofs.reconstruct_flat.Tie as tie
 
@@ -33,13 +33,13 @@ add-back-requires c κs =
     let s = c .before .before .before .before .before .before in
     let n = s .args .size in
     let h = side-most n (s .pre .1) in
-    let l = flat-length n (value s) (s .pre .1) in
+    let l = front-length n (λ k. value s) (s .pre .1) in
     rw (residuals (c .before .before .before), c .before .before .side .ensures .0) (
       s .pre .0,
       h,
       h,
       λ i j hi hj. omega (arith, l, in-block n i j hi hj, area-most n (s .pre .1)),
-      flat-within n (value s) (s .pre .1) (dcValue-within n (dequant n (s .args .dc-quant .0) (s .args .token)) (s .pre .1) (within-abs (s .pre .4))),
+      front-all n (λ k. value s) (s .pre .1) (2 ^ 62) (λ k h. dcValue-within n (dequant n (s .args .dc-quant .0) (s .args .token)) (s .pre .1) (within-abs (s .pre .4))),
     )
 
 returns : tie.Need-returns
@@ -49,7 +49,7 @@ returns c =
     c .before .before .add-back .ensures
     ∙ rw (residuals (c .before .before .before .before .before .before), c .before .before .before .before .before .side .ensures .0)
     (same-residuals (a .plane) (a .samples .now) (s .pre .0) (a .top) (a .x) (a .y) (side (a .size + 2)) _ (λ i j. value s)
-    (λ i j hi hj. flat-number (a .size) (value s) (s .pre .1) (i * side (a .size + 2) + j) (in-block (a .size) i j hi hj)))
+    (λ i j hi hj. front-at (a .size) (λ k. value s) (s .pre .1) (i * side (a .size + 2) + j) (in-block (a .size) i j hi hj)))
 
 pub reconstruct-flat-spec : {M : Type 1} → statement M
 reconstruct-flat-spec =
@@ -58,7 +58,7 @@ reconstruct-flat-spec =
     (λ c κs. search needs)
     (λ c. search needs)
     (λ c κs. search needs)
-    (λ c. let s = c .before .before .before .before .before .before in rw (residuals (c .before .before .before)) (sym (flat-length (s .args .size) (value s) (s .pre .1))))
+    (λ c. let s = c .before .before .before .before .before .before in rw (residuals (c .before .before .before)) (sym (front-length (s .args .size) (λ k. value s) (s .pre .1))))
     add-back-requires
     (λ c. search needs)
     returns)

@@ -8,10 +8,9 @@ use native.Mathlib.Omega.{arith}
 use lib.IntN.{ℤ, pos}
 use lib.ListN.{length, getD}
 use borrow.Author.Needs.{needs}
-use Rattle.blocks.specs.Block.{live}
 use Rattle.blocks.proofs.Live.{dead-at}
 use Rattle.reconstruct.specs.Inner.{Accepted}
-use Rattle.reconstruct.proofs.Residual.{inFront, filled, filled-fine, filled-dead, made, as-lossless, as-lossy, only-dc-is}
+use Rattle.reconstruct.proofs.Residual.{inFront, filled, filled-fine, made, as-lossless, as-lossy}
 use Rattle.reconstruct.proofs.residual4.Statement.{statement}
 use Rattle.reconstruct.proofs.residual4.Tie as tie
 
@@ -38,17 +37,6 @@ dead4 c k h l = go (decLt k 8)
         rw e at (dead-at 4 4 (c .before .before .before .before .before .args .tokens .now) (sym (c .before .any-live2 .ensures) ∙ c .if3 .left) (k - 4) (omega arith))
     go (no m) = dead8 (c .before .before) k (omega arith) l
 
--- place 0 alone, and type 0
-only : (c : tie.Then4) → let a = c .before .before .before .args in (a .tx-type ≡ 0) × (live 1 15 (a .tokens .now) ≡ false)
-only c =
-    let s = c .before .before .before in
-    only-dc-is 16 (s .args .tx-type) (s .args .tokens .now) (sym (c .before .only-dc .ensures) ∙ c .if4 .taken)
-
-dead1 : (c : tie.Then4) → (k : ℕ) → 1 ≤ k → k < 16 → getD (c .before .before .before .args .tokens .now) k (pos 0) ≡ pos 0
-dead1 c k h l =
-    let e : 1 + (k - 1) ≡ k = omega arith in
-    rw e at (dead-at 1 15 (c .before .before .before .args .tokens .now) (only c .1) (k - 1) (omega arith))
-
 -- ---- the coefficients
 block1 : (c : tie.After-dequantize) → c .dequantize .last .0 ≡ whole (c .before .before .before .before .before)
 block1 c =
@@ -68,17 +56,11 @@ block3 c =
     let a = s .args in
     filled (a .dc-quant) (a .ac-quant) (a .tx-type) (a .lossless) (a .tokens .now) (taken s) (a .block .now) (s .pre .0) 4 (omega arith) (dead4 (c .before .before)) (c .dequantize3 .ensures)
 
-block4 : (c : tie.After-dequantize4) → c .dequantize4 .last .0 ≡ whole (c .before .before .before .before .before)
+block4 : (c : tie.After-dequantize4) → c .dequantize4 .last .0 ≡ whole (c .before .before .before)
 block4 c =
-    let s = c .before .before .before .before .before in
+    let s = c .before .before .before in
     let a = s .args in
-    filled (a .dc-quant) (a .ac-quant) (a .tx-type) (a .lossless) (a .tokens .now) (taken s) (a .block .now) (s .pre .0) 1 (omega arith) (dead1 (c .before .before)) (c .dequantize4 .ensures)
-
-block5 : (c : tie.After-dequantize5) → c .dequantize5 .last .0 ≡ whole (c .before .before .before .before .before)
-block5 c =
-    let s = c .before .before .before .before .before in
-    let a = s .args in
-    filled (a .dc-quant) (a .ac-quant) (a .tx-type) (a .lossless) (a .tokens .now) (taken s) (a .block .now) (s .pre .0) 16 (omega arith) (λ k h l. absurd (omega arith)) (c .dequantize5 .ensures)
+    filled (a .dc-quant) (a .ac-quant) (a .tx-type) (a .lossless) (a .tokens .now) (taken s) (a .block .now) (s .pre .0) 16 (omega arith) (λ k h l. absurd (omega arith)) (c .dequantize4 .ensures)
 
 -- ---- the needs
 dequantize-requires : tie.Need-dequantize-requires
@@ -137,44 +119,21 @@ returns-3 c =
 
 dequantize-requires-4 : tie.Need-dequantize-requires-4
 dequantize-requires-4 c κs =
-    let t = taken (c .before .before .before .before) in
-    (omega arith, omega (arith, t .all), λ k h. t .codeables k (omega (arith, t .all)), t .quantizers)
-
-flat4-requires : tie.Need-flat4-requires
-flat4-requires c κs =
-    let s = c .before .before .before .before .before .before in
-    let a = s .args in
-    let b = block4 (c .before) in
-    let f = filled-fine (a .dc-quant) (a .ac-quant) (a .tx-type) (a .lossless) (a .tokens .now) (taken s) (a .block .now) (s .pre .0) b in
-    (f .0, f .1, filled-dead (a .dc-quant) (a .ac-quant) (a .tx-type) (a .lossless) (a .tokens .now) (taken s) (a .block .now) (s .pre .0) b (only (c .before .before .before) .1))
-
-returns-4 : tie.Need-returns-4
-returns-4 c =
-    let s = c .before .before .before .before .before .before .before in
-    let a = s .args in
-    made (a .dc-quant) (a .ac-quant) (a .tx-type) (a .lossless) (a .tokens .now) (taken s) (a .block .now) (s .pre .0) 0 false (block4 (c .before .before)) (c .flat4 .ensures)
-    (as-lossy 0 (a .tx-type) (a .lossless) (only (c .before .before .before .before) .0) (c .before .before .before .before .before .before .if1 .left))
-
-dequantize-requires-5 : tie.Need-dequantize-requires-5
-dequantize-requires-5 c κs =
-    let t = taken (c .before .before .before .before) in
+    let t = taken (c .before .before) in
     (omega arith, omega (arith, t .all), λ k h. t .codeables k (omega (arith, t .all)), t .quantizers)
 
 lossy4-requires : tie.Need-lossy4-requires
 lossy4-requires c κs =
-    let s = c .before .before .before .before .before .before in
+    let s = c .before .before .before .before in
     let a = s .args in
-    filled-fine (a .dc-quant) (a .ac-quant) (a .tx-type) (a .lossless) (a .tokens .now) (taken s) (a .block .now) (s .pre .0) (block5 (c .before))
+    filled-fine (a .dc-quant) (a .ac-quant) (a .tx-type) (a .lossless) (a .tokens .now) (taken s) (a .block .now) (s .pre .0) (block4 (c .before))
 
-returns-5 : tie.Need-returns-5
-returns-5 c =
-    let s = c .before .before .before .before .before .before .before in
+returns-4 : tie.Need-returns-4
+returns-4 c =
+    let s = c .before .before .before .before .before in
     let a = s .args in
-    made (a .dc-quant) (a .ac-quant) (a .tx-type) (a .lossless) (a .tokens .now) (taken s) (a .block .now) (s .pre .0) (a .tx-type) false (block5 (c .before .before)) (c .lossy4 .ensures)
-    (as-lossy (a .tx-type) (a .tx-type) (a .lossless) refl (c .before .before .before .before .before .before .if1 .left))
-
-only-dc-requires : tie.Need-only-dc-requires
-only-dc-requires c κs = (omega arith, omega (arith, taken (c .before) .all))
+    made (a .dc-quant) (a .ac-quant) (a .tx-type) (a .lossless) (a .tokens .now) (taken s) (a .block .now) (s .pre .0) (a .tx-type) false (block4 (c .before .before)) (c .lossy4 .ensures)
+    (as-lossy (a .tx-type) (a .tx-type) (a .lossless) refl (c .before .before .before .before .if1 .left))
 
 pub residual4-spec : {M : Type 1} → statement M
 residual4-spec =
@@ -191,10 +150,6 @@ residual4-spec =
     dequantize-requires-3
     wht4-requires-3
     returns-3
-    only-dc-requires
     dequantize-requires-4
-    flat4-requires
-    returns-4
-    dequantize-requires-5
     lossy4-requires
-    returns-5)
+    returns-4)

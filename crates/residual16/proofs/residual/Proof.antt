@@ -86,7 +86,7 @@ returns-2 c =
     let r = t .before .before in
     let s = start r in
     let f = rw (toZ-ofZ w64 (getD (s .args .tokens .now) 0 (pos 0)) (record { sfits = g .residual-dc-arg2 .given }), dc-plain s) at (c .residual-dc .ensures) in
-    λ _. record {
+    record {
       small = flat-small _ _ _ _ _ (lent s) (only t) (omega (arith, first-small d, reaches r .2));
       made = flat-made _ _ _ _ _ (lent s) (only t) (s .args .z .now) (c .residual-dc .last .0) (s .pre .0) f;
     }
@@ -124,6 +124,14 @@ coefs c =
     rd-ok w16 {z = c .coefficient .result} (c .coefficient .ok) ∙ rw (t, dc-plain s) at (c .coefficient .ensures) in
     rw e (coefs-made _ _ _ _ _ (lent s) (s .args .z .now) (q .dequantize .last .0) (s .pre .0) (rw (count-is r, ac-plain s) at (q .dequantize .ensures)))
 
+returns-4 : tie.Need-returns-4
+returns-4 c =
+    let k = c .before .before .before in
+    let d = k .before .before .before .before in
+    let r = d .before .before .before .before in
+    let s = start r in
+    record { small = λ i h. omega (arith, all-small d i (omega (arith, lent s .all)), reaches r .2); made = coefs k }
+
 passes-requires : tie.Need-passes-requires
 passes-requires c κs =
     let t = c .before .before in
@@ -139,7 +147,7 @@ returns-5 c =
     let d = k .before .before .before .before in
     let r = d .before .before .before .before in
     let s = start r in
-    λ _. record {
+    record {
       small = λ i h. omega (arith, all-small d i (omega (arith, lent s .all)), reaches r .2);
       made = rw (coefs k) at (c .passes .ensures);
     }
@@ -154,19 +162,19 @@ residual-spec =
     only-dc-requires
     (λ c. let s = start (c .before .before) in rw (lent s .all) (some _ _ _ _ _ (lent s)))
     (λ c κs. search needs)
-    (λ c e. never e)
+    (λ c. tt)
     (λ c. let s = start (c .before .before .before .before .before .before) in rw (lent s .all) (some _ _ _ _ _ (lent s)))
     residual-dc-requires
     returns-2
     (λ c. let r = c .before .before in omega (arith, reaches r .2))
     (λ c κs. let r = c .before .before in (omega (arith, count-is r, lent (start r) .all), omega (arith, reaches r .2)))
-    (λ c e. never e)
+    (λ c. tt)
     dequantize-requires
     (λ c. let s = start (c .before .before .before .before .before .before) in rw (lent s .all) (some _ _ _ _ _ (lent s)))
     coefficient-requires
     (λ c. search needs)
     (λ c κs. c .before .before .before .before .before .before .before .before .before .before .area .ensures .1)
-    (λ c e. never e)
+    returns-4
     (λ c. search needs)
     passes-requires
     returns-5)
