@@ -26,6 +26,7 @@ use Rattle.idct.proofs.Answers.{possible, driven, under}
 use Rattle.idct32.specs.Engine.{within16, widthAnswer, answerOf32, blockAfter32, Driven32}
 use Rattle.narrow_small.specs.Inner.{front, rowsMade, made, staying}
 use Rattle.narrow_small.proofs.Scan.{front-length, front-at, front-short}
+use Rattle.narrow_small.proofs.Wht.{lossless-stays}
 use Rattle.idct32.proofs.Four.{four-within16}
 use native.Mathlib.Omega.{arith}
 use Rattle.idct32.proofs.Work.{area-most, short-under, taken, within-are, residual}
@@ -129,3 +130,10 @@ module _ (s : List ℤ) (tx-type : ℕ) (lossless : Bool) (room : 16 ≤ length 
       → after ≡ fill 16 (λ k. rounding 2 lossless (getD (made tx-type lossless (front s)) k (pos 0))) s → Driven32 four Done after
   unfolding made rowsMade
   four-stays z e g = done four z (front-same ∙ sym e) (g ∙ residual 2 tx-type lossless s (front s) room enough (front-at s) refl)
+
+-- a lossless one never leaves 16 bits
+module _ (s : List ℤ) (tx-type : ℕ) (room : 16 ≤ length s) (h : shorts 16 s ≡ true) where
+  pub four-lossless : {after : List ℤ} → D.answerOf (four s tx-type true room h) ≡ 0
+      → after ≡ fill 16 (λ k. rounding 2 true (getD (made 0 true (front s)) k (pos 0))) s → Driven32 (four s tx-type true room h) Done after
+  unfolding made rowsMade
+  four-lossless z g = four-stays s tx-type true room h z (lossless-stays tx-type (front s) (enough s tx-type true room h) (front-short s h)) g

@@ -7,12 +7,9 @@ use Prim.Native.Nat.{ℕ, zero, suc, _+_, _≤_, _<_}
 use native.Mathlib.Nat.{eq-or-lt-of-le}
 use native.Mathlib.Numerals.{add-one}
 use native.Mathlib.Omega.{arith}
-use lib.Dec.{lit<}
-use lib.IntN.{ℤ, pos, natAbs}
+use lib.IntN.{ℤ, pos}
 use lib.ListN.{getD}
-use Rattle.whole.proofs.Within.{within-abs, within-sfits}
 use Rattle.narrow.specs.Kept.{short, shorts}
-use Rattle.narrow.proofs.Short.{fits-short}
 use Rattle.idct32.specs.Engine.{every}
 
 pub never : {A : Type 0} → false ≡ true → A
@@ -93,7 +90,3 @@ shorts-all n t f = shorts-every n t ∙ every-all (λ k. short (getD t k (pos 0)
 
 pub shorts-at : (n : ℕ) (t : List ℤ) (k : ℕ) → shorts n t ≡ true → k < n → short (getD t k (pos 0)) ≡ true
 shorts-at n t k h l = every-at (λ k. short (getD t k (pos 0))) n k (sym (shorts-every n t) ∙ h) l
-
--- a number that is nearer is of 16 bits
-pub near-short : (z : ℤ) → natAbs z ≤ 16384 → short z ≡ true
-near-short z h = fits-short (within-sfits (lit< tt) (within-abs h))

@@ -8,6 +8,7 @@ ghost use lib.ListN.{length, getD};
 ghost use Rattle.whole.specs.Lists.{fill};
 ghost use Rattle.whole.specs.Round.{Round2};
 ghost use Rattle.whole.specs.Within.{Within};
+ghost use Rattle.answers.specs.Answers.{number};
 ghost use Rattle.answers.specs.Sizes.{side, area};
 ghost use Rattle.narrow.specs.Kept.{short, shorts};
 ghost use Rattle.blocks.specs.Block.{rows, columns};
@@ -15,6 +16,7 @@ ghost use Rattle.blocks.specs.Inner.{Possible};
 ghost use Rattle.blocks.specs.Inverse.{apply, rowPass, columnPass, bits};
 ghost use Rattle.weights.specs.Inner.{total};
 ghost use Rattle.idct32.specs.Engine.{keptRows, keptColumns, within16, Driven32};
+ghost use Rattle.idct32.specs.Inner.{Refused4};
 
 // x is of 16 bits.
 fn is_short(x: i64) -> bool
@@ -149,28 +151,20 @@ fn give_by_size(block: &mut [i64], work: &[i16; 1024], n: u32)
     }
 }
 
-// Whether the first sixteen numbers are of 16 bits, one by one.
-fn each_short(block: &[i64]) -> bool
+// The answer to the numbers of a 4 by 4 block as they are lent. Two calls, so that it stays out of line: inlined, a lossless block has its numbers from the
+// wide registers of the test, one by one.
+fn entry(block: &[i64]) -> Answer
     requires { ⌜ 16 ≤ length (now block) ⌝ }
-    ensures { λ r. ⌜ r ≡ shorts 16 (now (block .entry)) ⌝ }
+    ensures enters { λ r. ⌜ (number r ≡ 0 → shorts 16 (now (block .entry)) ≡ true) ⌝ }
+    ensures refuses { λ r. ⌜ ((number r ≡ 0 → ⊥) → Refused4 (now (block .entry)) r) ⌝ }
 {
-    for k in 0..16usize {
-        if !is_short(block[k]) {
-            return false;
+    if !narrow_small::entered(block) {
+        if answers::any_beyond(block, 16, answers::COEF_LIMIT) {
+            return Answer::Coefficient;
         }
+        return Answer::Narrow;
     }
-    true
-}
-
-// The same; one test of all is enough for almost every block.
-fn entered(block: &[i64]) -> bool
-    requires { ⌜ 16 ≤ length (now block) ⌝ }
-    ensures { λ r. ⌜ r ≡ shorts 16 (now (block .entry)) ⌝ }
-{
-    if blocks::or_plus_most(block, 0, 16, 16384) < 32768 {
-        return true;
-    }
-    each_short(block)
+    Answer::Done
 }
 
 // 4 by 4: with 2 for n the tests fold.
@@ -181,16 +175,22 @@ fn block4(block: &mut [i64], tx_type: u8, lossless: bool) -> Answer
     if answers::code(answer) != 0 {
         return answer;
     }
-    if !entered(block) {
-        if answers::any_beyond(block, 16, answers::COEF_LIMIT) {
-            return Answer::Coefficient;
+    if lossless {
+        let first = entry(block);
+        if answers::code(first) != 0 {
+            return first;
         }
-        return Answer::Narrow;
-    }
-    if narrow_small::inverse4(block, tx_type, lossless) {
+        narrow_small::lossless4(block);
         return Answer::Done;
     }
-    Answer::Narrow
+    let first = entry(block);
+    if answers::code(first) != 0 {
+        return first;
+    }
+    if !narrow_small::lossy4(block, tx_type) {
+        return Answer::Narrow;
+    }
+    Answer::Done
 }
 
 // 8 by 8 and more, and any n that is none: the block is written when every row and column has passed.

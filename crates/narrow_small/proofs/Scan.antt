@@ -1,5 +1,5 @@
 -- `shorts` as a loop builds it up, and what it says of each place.
-use mathlib.Core.Path.{_≡_, refl, sym, _∙_}
+use mathlib.Core.Path.{_≡_, refl}
 use mathlib.Core.Bool.{Bool, true, false, _&&_}
 use mathlib.Core.List.{List}
 use mathlib.Core.Logic.{⊎-elim}
@@ -46,13 +46,6 @@ shorts-at (suc n) t k h l = ⊎-elim
     (λ (q : k ≡ n). rw q (and-left (short (getD t n (pos 0))) (shorts n t) h))
     (λ (q : k < n). shorts-at n t k (and-right (short (getD t n (pos 0))) (shorts n t) h) q)
     (eq-or-lt-of-le (omega arith))
-
--- a flag that falls where a number is not of 16 bits
-pub flag-stays : (i : ℕ) (t : List ℤ) {all r : Bool} → all ≡ shorts i t → r ≡ short (getD t i (pos 0)) → r ≡ true → all ≡ shorts (i + 1) t
-flag-stays i t {all} {r} e f g = e ∙ sym (shorts-next i t ∙ rw (sym f ∙ g))
-
-pub flag-falls : (i : ℕ) (t : List ℤ) {r : Bool} → r ≡ short (getD t i (pos 0)) → r ≡ false → false ≡ shorts (i + 1) t
-flag-falls i t {r} f g = sym (shorts-next i t ∙ rw (sym f ∙ g))
 
 -- a number of 16 bits
 pub short-within : (z : ℤ) → short z ≡ true → Within 32768 z

@@ -1,6 +1,7 @@
-// Blocks of 4 by 4 whose numbers are of 16 bits, in numbers of 32: literal counts, so that the loops unroll and the arrays vanish.
+// Blocks of 4 by 4 whose numbers are of 16 bits, in numbers of 32, by literal counts, so that the loops unroll. A pass of a block that is not lossless has two calls, so
+// that it stays out of line: with both passes inlined the compiler takes numbers by twos, and most of its time goes on moving them.
 ghost use mathlib.Core.Path.{_≡_};
-ghost use mathlib.Core.Bool.{true, false, cond};
+ghost use mathlib.Core.Bool.{true, false, cond, _&&_};
 ghost use Prim.Native.Nat.{ℕ, _+_, _*_, _≤_, _<_};
 ghost use lib.IntN.{pos};
 ghost use lib.ListN.{length, getD};
@@ -14,8 +15,34 @@ ghost use Rattle.wht.specs.Wht.{wht};
 ghost use Rattle.narrow.specs.Kept.{short, shorts};
 ghost use Rattle.blocks.specs.Block.{line, rows, columns};
 ghost use Rattle.blocks.specs.Inner.{setLine, changeLine};
-ghost use Rattle.blocks.specs.Inverse.{Wht, apply, lossy, rounding};
-ghost use Rattle.narrow_small.specs.Inner.{front, made, staying};
+ghost use Rattle.blocks.specs.Inverse.{Wht, apply, lossy, columnPass, rounding};
+ghost use Rattle.flagged.specs.Inner.{clean};
+ghost use Rattle.narrow_small.specs.Inner.{front, rowsMade, made, staying};
+
+// x + 32768 on 64 bits: below 65536 exactly where x is of 16 bits. All three forms are one addition to the compiler.
+fn over_long(x: i64) -> u64
+    ensures { λ r. ⌜ clean r ≡ short x ⌝ }
+{
+    if x < -32768 {
+        return 18446744073709551615 - (-(x + 32769)) as u64;
+    }
+    if x < 0 {
+        return (x + 32768) as u64;
+    }
+    x as u64 + 32768
+}
+
+// Whether the first sixteen numbers of a block are of 16 bits: or-ed, and no early return, for speed.
+pub fn entered(block: &[i64]) -> bool
+    requires { ⌜ 16 ≤ length (now block) ⌝ }
+    ensures { λ r. ⌜ r ≡ shorts 16 (now (block .entry)) ⌝ }
+{
+    let mut all = 0u64;
+    for k in 0..16usize {
+        all = over_long(block[k]) | all;
+    }
+    all < 65536
+}
 
 // A number that is of 16 bits, in 32.
 fn narrowed(x: i64) -> i32
@@ -153,60 +180,158 @@ fn line4(work: &mut [i32; 16], start: usize, step: usize, use_dct: bool, lossles
     store(work, &t, start, step);
 }
 
-// All rows.
-fn rows4(work: &mut [i32; 16], use_dct: bool, lossless: bool)
+// All rows by the DCT.
+fn dct_rows(work: &mut [i32; 16])
     requires { ⌜ (length (now work) ≡ 16) × (shorts 16 (now work) ≡ true) ⌝ }
-    ensures { λ _. ⌜ now (work .exit) ≡ rows (apply (cond lossless (Wht 2) (lossy «use_dct»)) 2) 4 (now (work .entry)) ⌝ }
+    ensures { λ _. ⌜ now (work .exit) ≡ rows (apply (lossy true) 2) 4 (now (work .entry)) ⌝ }
 {
     for i in 0..4usize {
-        line4(work, i * 4, 1, use_dct, lossless, 2);
+        line4(work, i * 4, 1, true, false, 2);
     }
 }
 
-// All columns, not rounded.
-fn columns4(work: &mut [i32; 16], use_dct: bool, lossless: bool)
+// All columns by the DCT, not rounded.
+fn dct_columns(work: &mut [i32; 16])
     requires { ⌜ (length (now work) ≡ 16) × (shorts 16 (now work) ≡ true) ⌝ }
-    ensures { λ _. ⌜ now (work .exit) ≡ columns (apply (cond lossless (Wht 0) (lossy «use_dct»)) 2) (λ z. z) 4 (now (work .entry)) ⌝ }
+    ensures { λ _. ⌜ now (work .exit) ≡ columns (apply (lossy true) 2) (λ z. z) 4 (now (work .entry)) ⌝ }
 {
     for j in 0..4usize {
-        line4(work, j, 4, use_dct, lossless, 0);
+        line4(work, j, 4, true, false, 0);
     }
 }
 
-// Whether every number is of 16 bits; a flag and no early return, for speed.
+// All rows by the ADST.
+fn adst_rows(work: &mut [i32; 16])
+    requires { ⌜ (length (now work) ≡ 16) × (shorts 16 (now work) ≡ true) ⌝ }
+    ensures { λ _. ⌜ now (work .exit) ≡ rows (apply (lossy false) 2) 4 (now (work .entry)) ⌝ }
+{
+    for i in 0..4usize {
+        line4(work, i * 4, 1, false, false, 2);
+    }
+}
+
+// All columns by the ADST, not rounded.
+fn adst_columns(work: &mut [i32; 16])
+    requires { ⌜ (length (now work) ≡ 16) × (shorts 16 (now work) ≡ true) ⌝ }
+    ensures { λ _. ⌜ now (work .exit) ≡ columns (apply (lossy false) 2) (λ z. z) 4 (now (work .entry)) ⌝ }
+{
+    for j in 0..4usize {
+        line4(work, j, 4, false, false, 0);
+    }
+}
+
+// All rows by the WHT.
+fn wht_rows(work: &mut [i32; 16])
+    requires { ⌜ (length (now work) ≡ 16) × (shorts 16 (now work) ≡ true) ⌝ }
+    ensures { λ _. ⌜ now (work .exit) ≡ rows (apply (Wht 2) 2) 4 (now (work .entry)) ⌝ }
+{
+    for i in 0..4usize {
+        line4(work, i * 4, 1, true, true, 2);
+    }
+}
+
+// All columns by the WHT, not rounded.
+fn wht_columns(work: &mut [i32; 16])
+    requires { ⌜ (length (now work) ≡ 16) × (shorts 16 (now work) ≡ true) ⌝ }
+    ensures { λ _. ⌜ now (work .exit) ≡ columns (apply (Wht 0) 2) (λ z. z) 4 (now (work .entry)) ⌝ }
+{
+    for j in 0..4usize {
+        line4(work, j, 4, true, true, 0);
+    }
+}
+
+// What the DCT makes of the rows of a block.
+fn by_dct(block: &[i64]) -> [i32; 16]
+    requires { ⌜ (16 ≤ length (now block)) × (shorts 16 (now block) ≡ true) ⌝ }
+    ensures { λ r. ⌜ r ≡ rows (apply (lossy true) 2) 4 (front (now (block .entry))) ⌝ }
+{
+    let mut work = [0i32; 16];
+    take(&mut work, block);
+    dct_rows(&mut work);
+    work
+}
+
+// What the ADST makes of them.
+fn by_adst(block: &[i64]) -> [i32; 16]
+    requires { ⌜ (16 ≤ length (now block)) × (shorts 16 (now block) ≡ true) ⌝ }
+    ensures { λ r. ⌜ r ≡ rows (apply (lossy false) 2) 4 (front (now (block .entry))) ⌝ }
+{
+    let mut work = [0i32; 16];
+    take(&mut work, block);
+    adst_rows(&mut work);
+    work
+}
+
+// The rows of a block that is not lossless, by its type: two calls of each pass.
+fn rows4(block: &[i64], tx_type: u8) -> [i32; 16]
+    requires { ⌜ (16 ≤ length (now block)) × (shorts 16 (now block) ≡ true) ⌝ }
+    ensures { λ r. ⌜ r ≡ rowsMade «tx_type» false (front (now (block .entry))) ⌝ }
+{
+    match tx_type {
+        0 => by_dct(block),
+        1 => by_dct(block),
+        2 => by_adst(block),
+        _ => by_adst(block),
+    }
+}
+
+// The columns of what they leave, not rounded, in the same way.
+fn columns4(work: &mut [i32; 16], tx_type: u8)
+    requires { ⌜ (length (now work) ≡ 16) × (shorts 16 (now work) ≡ true) ⌝ }
+    ensures { λ _. ⌜ now (work .exit) ≡ columns (apply (columnPass «tx_type» false) 2) (λ z. z) 4 (now (work .entry)) ⌝ }
+{
+    match tx_type {
+        0 => dct_columns(work),
+        1 => adst_columns(work),
+        2 => dct_columns(work),
+        _ => adst_columns(work),
+    }
+}
+
+// The same on 32 bits.
+fn over(x: i32) -> u32
+    ensures { λ r. ⌜ clean r ≡ short x ⌝ }
+{
+    if x < -32768 {
+        return 4294967295 - (-(x + 32769)) as u32;
+    }
+    if x < 0 {
+        return (x + 32768) as u32;
+    }
+    x as u32 + 32768
+}
+
+// Whether every number is of 16 bits.
 fn all_short(work: &[i32; 16]) -> bool
     ensures { λ r. ⌜ r ≡ shorts 16 (now (work .entry)) ⌝ }
 {
-    let mut all = true;
+    let mut all = 0u32;
     for k in 0..16usize {
-        if !narrow::is_short(work[k]) {
-            all = false;
-        }
+        all = over(work[k]) | all;
     }
-    all
+    all < 65536
 }
 
-// Rows, then columns, not rounded; false where a number leaves 16 bits.
-fn passes(work: &mut [i32; 16], tx_type: u8) -> bool
-    requires { ⌜ (length (now work) ≡ 16) × (shorts 16 (now work) ≡ true) ⌝ }
-    ensures is { λ r. ⌜ r ≡ staying «tx_type» false (now (work .entry)) ⌝ }
-    ensures then { λ r. ⌜ (r ≡ true → (now (work .exit) ≡ made «tx_type» false (now (work .entry))) × (shorts 16 (now (work .exit)) ≡ true)) ⌝ }
+// These columns; false where a number of what the rows leave, or of what the columns leave, is not of 16 bits.
+fn columns_kept(work: &mut [i32; 16], tx_type: u8) -> bool
+    requires { ⌜ length (now work) ≡ 16 ⌝ }
+    ensures is { λ r. ⌜ r ≡ shorts 16 (now (work .entry)) && shorts 16 (columns (apply (columnPass «tx_type» false) 2) (λ z. z) 4 (now (work .entry))) ⌝ }
+    ensures then { λ r. ⌜ (r ≡ true → (now (work .exit) ≡ columns (apply (columnPass «tx_type» false) 2) (λ z. z) 4 (now (work .entry))) × (shorts 16 (now (work .exit)) ≡ true)) ⌝ }
 {
-    rows4(work, blocks::row_dct(tx_type), false);
     if !all_short(work) {
         return false;
     }
-    columns4(work, blocks::column_dct(tx_type), false);
+    columns4(work, tx_type);
     all_short(work)
 }
 
-// The same of a lossless block, which never leaves 16 bits.
+// Both passes of a lossless block, which never leaves 16 bits.
 fn wht_passes(work: &mut [i32; 16])
     requires { ⌜ (length (now work) ≡ 16) × (shorts 16 (now work) ≡ true) ⌝ }
     ensures { λ _. ⌜ now (work .exit) ≡ made 0 true (now (work .entry)) ⌝ }
 {
-    rows4(work, true, true);
-    columns4(work, true, true);
+    wht_rows(work);
+    wht_columns(work);
 }
 
 // Round2(x, 4) of a number of T.
@@ -238,15 +363,14 @@ fn give(block: &mut [i64], work: &[i32; 16])
 }
 
 // The residual of a block that is not lossless, in its place; false where a number on the way leaves 16 bits, and then the block stays.
-fn lossy4(block: &mut [i64], tx_type: u8) -> bool
+pub fn lossy4(block: &mut [i64], tx_type: u8) -> bool
     requires { ⌜ (16 ≤ length (now block)) × (shorts 16 (now block) ≡ true) ⌝ }
     ensures is { λ r. ⌜ r ≡ staying «tx_type» false (front (now (block .entry))) ⌝ }
     ensures then { λ r. ⌜ (r ≡ true → now (block .exit) ≡ fill 16 (λ k. rounding 2 false (getD (made «tx_type» false (front (now (block .entry)))) k (pos 0))) (now (block .entry))) ⌝ }
     ensures stays { λ r. ⌜ (r ≡ false → now (block .exit) ≡ now (block .entry)) ⌝ }
 {
-    let mut work = [0i32; 16];
-    take(&mut work, block);
-    if !passes(&mut work, tx_type) {
+    let mut work = rows4(block, tx_type);
+    if !columns_kept(&mut work, tx_type) {
         return false;
     }
     give_rounded(block, &work);
@@ -254,7 +378,7 @@ fn lossy4(block: &mut [i64], tx_type: u8) -> bool
 }
 
 // The residual of a lossless block, in its place.
-fn lossless4(block: &mut [i64])
+pub fn lossless4(block: &mut [i64])
     requires { ⌜ (16 ≤ length (now block)) × (shorts 16 (now block) ≡ true) ⌝ }
     ensures { λ _. ⌜ now (block .exit) ≡ fill 16 (λ k. rounding 2 true (getD (made 0 true (front (now (block .entry)))) k (pos 0))) (now (block .entry)) ⌝ }
 {
@@ -262,18 +386,4 @@ fn lossless4(block: &mut [i64])
     take(&mut work, block);
     wht_passes(&mut work);
     give(block, &work);
-}
-
-// The residual of a 4 by 4 block whose numbers are of 16 bits, in its place; false where a number on the way leaves them, and then the block stays.
-pub fn inverse4(block: &mut [i64], tx_type: u8, lossless: bool) -> bool
-    requires { ⌜ (16 ≤ length (now block)) × (shorts 16 (now block) ≡ true) ⌝ }
-    ensures is { λ r. ⌜ r ≡ staying «tx_type» lossless (front (now (block .entry))) ⌝ }
-    ensures then { λ r. ⌜ (r ≡ true → now (block .exit) ≡ fill 16 (λ k. rounding 2 lossless (getD (made «tx_type» lossless (front (now (block .entry)))) k (pos 0))) (now (block .entry))) ⌝ }
-    ensures stays { λ r. ⌜ (r ≡ false → now (block .exit) ≡ now (block .entry)) ⌝ }
-{
-    if lossless {
-        lossless4(block);
-        return true;
-    }
-    lossy4(block, tx_type)
 }

@@ -5,15 +5,15 @@ use borrow.Author.Needs.{needs}
 use borrow.Author.Tests.{not-true, not-false}
 use Prim.Native.Nat.{_≤_}
 use lib.ListN.{length}
-use Rattle.answers.specs.declared.Answer.the-variants.{Coefficient}
 use Rattle.answers.specs.Answers.{number}
 use Rattle.narrow.specs.Kept.{shorts}
 use Rattle.idct.specs.Driver.{Input}
 use Rattle.idct.specs.Driver as S
 use Rattle.idct.specs.Inner.{shapeOf}
 use Rattle.idct.proofs.Answers as D
-use Rattle.idct32.proofs.Answers.{refused, clear, narrow, four-leaves, four-stays}
-use Rattle.idct32.proofs.Work.{not-entered, short-under}
+use Rattle.idct32.specs.Inner.{Refused4}
+use Rattle.idct32.proofs.Answers.{refused, clear, four-leaves, four-stays, four-lossless}
+use Rattle.idct32.proofs.Work.{short-under}
 use Rattle.idct32.proofs.block4.Statement.{statement}
 use Rattle.idct32.proofs.block4.Tie as tie
 
@@ -34,47 +34,66 @@ returns c =
     let ne : number (c .before .before .shape .result) ≡ 0 → ⊥ = λ z. c .if1 .taken (c .before .code .ensures ∙ z) in
     refused u (D.refused u _ (c .before .before .shape .ensures) ne) ne
 
+-- where the numbers are of 16 bits, nothing is refused yet
+zero : (e : tie.Else1) → let u = given (e .before .before .before) in shorts 16 (u .block) ≡ true → S.answerOf u ≡ 0
+zero e h = let u = given (e .before .before .before) in clear u (passed e) (short-under 16 (u .block) h)
+
+-- ---- lossless
 returns-2 : tie.Need-returns-2
+unfolding Refused4
 returns-2 c =
-    let b = c .before in
-    let e = b .before .before .before .before .before in
-    let u = given (e .before .before .before) in
-    refused u (D.driven u Coefficient (u .block) (passed e) (D.over u (sym (b .any-beyond .ensures) ∙ c .if3 .taken))) (λ z. absurd (omega arith))
+    let a = c .before .before in
+    let e = a .before .before .before in
+    let s = e .before .before .before in
+    a .entry .ensures .1 (λ z. c .if3 .taken (c .before .code2 .ensures ∙ z)) (s .args .tx-type) (s .args .lossless) (passed e)
+
+entered : (c : tie.Else3) → shorts 16 (c .before .before .before .before .before .before .before .before .args .block .now) ≡ true
+entered c = c .before .before .entry .ensures .0 (sym (c .before .code2 .ensures) ∙ c .if3 .left)
 
 returns-3 : tie.Need-returns-3
 returns-3 c =
-    let b = c .before in
-    let t = b .before .before in
-    let e = t .before .before .before in
-    let u = given (e .before .before .before) in
-    narrow u (clear u (passed e) (sym (b .any-beyond .ensures) ∙ c .if3 .left))
-    (not-entered 2 (u .tx-type) (u .lossless) (u .block) (omega arith) (sym (t .before .entered .ensures) ∙ not-true (t .before .entered .result) (t .if2 .taken)))
+    let g = c .before in
+    let x = g .before .before in
+    let n = x .before .before .before .before in
+    let e = n .before in
+    let s = e .before .before .before in
+    rw (n .if2 .taken) (four-lossless (s .args .block .now) (s .args .tx-type) (room e) (entered x) (rw (n .if2 .taken) at (zero e (entered x))) (g .lossless4 .ensures))
 
--- the numbers are of 16 bits, and so nothing is refused yet
-entered : (c : tie.Else2) → shorts 16 (given (c .before .before .before .before .before .before) .block) ≡ true
-entered c = sym (c .before .entered .ensures) ∙ not-false (c .before .entered .result) (c .if2 .left)
-
-zero : (c : tie.Else2) → S.answerOf (given (c .before .before .before .before .before .before)) ≡ 0
-zero c =
-    let e = c .before .before .before in
-    let u = given (e .before .before .before) in
-    clear u (passed e) (short-under 16 (u .block) (entered c))
-
+-- ---- not lossless
 returns-4 : tie.Need-returns-4
+unfolding Refused4
 returns-4 c =
-    let i = c .before .before in
-    let e = i .before .before in
-    let s = e .before .before .before .before .before .before in
-    let r = i .inverse4 .ensures in
-    four-stays (s .args .block .now) (s .args .tx-type) (s .args .lossless) (room (e .before .before .before)) (entered e) (zero e) (sym (c .if4 .taken) ∙ r .0) (r .1 .0 (c .if4 .taken))
+    let a = c .before .before in
+    let e = a .before .before .before in
+    let s = e .before .before .before in
+    a .entry2 .ensures .1 (λ z. c .if4 .taken (c .before .code3 .ensures ∙ z)) (s .args .tx-type) (s .args .lossless) (passed e)
+
+entered-2 : (c : tie.Else4) → shorts 16 (c .before .before .before .before .before .before .before .before .args .block .now) ≡ true
+entered-2 c = c .before .before .entry2 .ensures .0 (sym (c .before .code3 .ensures) ∙ c .if4 .left)
 
 returns-5 : tie.Need-returns-5
 returns-5 c =
     let i = c .before .before in
-    let e = i .before .before in
-    let s = e .before .before .before .before .before .before in
-    let r = i .inverse4 .ensures in
-    rw (r .1 .1 (c .if4 .left)) (four-leaves (s .args .block .now) (s .args .tx-type) (s .args .lossless) (room (e .before .before .before)) (entered e) (zero e) (sym (c .if4 .left) ∙ r .0))
+    let x = i .before .before in
+    let n = x .before .before .before .before in
+    let e = n .before in
+    let s = e .before .before .before in
+    let r = i .lossy4 .ensures in
+    let f = not-true (i .lossy4 .result) (c .if5 .taken) in
+    rw (n .if2 .left, r .1 .1 f)
+    (four-leaves (s .args .block .now) (s .args .tx-type) false (room e) (entered-2 x) (rw (n .if2 .left) at (zero e (entered-2 x))) (sym f ∙ r .0))
+
+returns-6 : tie.Need-returns-6
+returns-6 c =
+    let i = c .before .before in
+    let x = i .before .before in
+    let n = x .before .before .before .before in
+    let e = n .before in
+    let s = e .before .before .before in
+    let r = i .lossy4 .ensures in
+    let f = not-false (i .lossy4 .result) (c .if5 .left) in
+    rw (n .if2 .left)
+    (four-stays (s .args .block .now) (s .args .tx-type) false (room e) (entered-2 x) (rw (n .if2 .left) at (zero e (entered-2 x))) (sym f ∙ r .0) (r .1 .0 f))
 
 pub block4-spec : {M : Type 1} → statement M
 block4-spec =
@@ -83,14 +102,19 @@ block4-spec =
     (λ c κs. search needs)
     (λ c κs. search needs)
     returns
-    (λ c κs. room (c .before))
-    (λ c κs. room (c .before .before .before .before))
+    (λ c κs. room (c .before .before))
+    (λ c κs. search needs)
     (λ c. search needs)
     returns-2
+    (λ c κs. let x = c .before in (room (x .before .before .before .before .before), entered x))
     (λ c. search needs)
     returns-3
-    (λ c κs. let e = c .before in (room (e .before .before .before), entered e))
+    (λ c κs. room (c .before .before))
+    (λ c κs. search needs)
     (λ c. search needs)
     returns-4
+    (λ c κs. let x = c .before in (room (x .before .before .before .before .before), entered-2 x))
     (λ c. search needs)
-    returns-5)
+    returns-5
+    (λ c. search needs)
+    returns-6)

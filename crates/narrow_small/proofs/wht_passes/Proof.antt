@@ -11,19 +11,19 @@ use Rattle.narrow_small.proofs.wht_passes.Statement.{statement}
 use Rattle.narrow_small.proofs.wht_passes.Tie as tie
 
 -- what the rows leave
-after-rows : (r : tie.After-rows4) → r .rows4 .last .0 ≡ rowsMade 0 true (r .before .before .args .work .now)
+after-rows : (r : tie.After-wht-rows) → r .wht-rows .last .0 ≡ rowsMade 0 true (r .before .before .args .work .now)
 unfolding rowsMade
-after-rows r = r .rows4 .ensures
+after-rows r = r .wht-rows .ensures
 
-columns4-requires : tie.Need-columns4-requires
-columns4-requires c κs =
+wht-columns-requires : tie.Need-wht-columns-requires
+wht-columns-requires c κs =
     let r = c .before in
     let s = r .before .before in
-    (ap length (r .rows4 .ensures) ∙ rows-length _ _ _ ∙ s .pre .0, ap (shorts 16) (after-rows r) ∙ rows-short (s .args .work .now) (omega (arith, s .pre .0)) (s .pre .1))
+    (ap length (r .wht-rows .ensures) ∙ rows-length _ _ _ ∙ s .pre .0, ap (shorts 16) (after-rows r) ∙ rows-short (s .args .work .now) (omega (arith, s .pre .0)) (s .pre .1))
 
 returns : tie.Need-returns
 unfolding made
-returns c = rw (after-rows (c .before .before)) at (c .columns4 .ensures)
+returns c = rw (after-rows (c .before .before)) at (c .wht-columns .ensures)
 
 pub wht-passes-spec : {M : Type 1} → statement M
-wht-passes-spec = tie.close (tie.spec (λ c κs. search needs) columns4-requires returns)
+wht-passes-spec = tie.close (tie.spec (λ c κs. search needs) wht-columns-requires returns)
