@@ -22,7 +22,7 @@ ghost use Rattle.quant.specs.Places.{quantizerAt};
 ghost use Rattle.quant.specs.Token.{dequant};
 ghost use Rattle.plane.specs.Place.{SamplesOf, cut};
 ghost use Rattle.plane.specs.Plane.{planeAfter};
-ghost use Rattle.blocks.specs.Block.{onlyDc};
+ghost use Rattle.blocks.specs.Block.{live, onlyDc};
 ghost use Rattle.blocks.specs.Inner.{FirstWithin, dcValue, Possible};
 ghost use Rattle.blocks.specs.Inverse.{inverse2d};
 ghost use Rattle.residual16.specs.Inner.{Lent};
@@ -215,7 +215,7 @@ fn reconstruct_flat4(
     add_flat4(samples, plane, x, y, v, top);
 }
 
-// Tokens that are taken, 4 by 4.
+// Tokens that are taken, 4 by 4. True only where no token but the first is live.
 fn reconstruct_4(
     samples: &mut [u16],
     plane: Plane,
@@ -227,19 +227,20 @@ fn reconstruct_4(
     tx_type: u8,
     lossless: bool,
     top: u16,
-)
+) -> bool
     requires { ⌜ SamplesOf plane (now samples) × Accepted 0 «dc_quant» «ac_quant» «tx_type» lossless (now tokens) ⌝ }
-    ensures { λ _. ⌜ now (samples .exit) ≡ added plane top x y 0 «dc_quant» «ac_quant» «tx_type» lossless (now (tokens .entry)) (now (samples .entry)) ⌝ }
+    ensures { λ r. ⌜ (now (samples .exit) ≡ added plane top x y 0 «dc_quant» «ac_quant» «tx_type» lossless (now (tokens .entry)) (now (samples .entry))) × (r ≡ true → live 1 (length (now (tokens .entry)) - 1) (now (tokens .entry)) ≡ false) ⌝ }
 {
     if !lossless {
         if only_dc(tokens, 16, tx_type) {
             reconstruct_flat4(samples, plane, x, y, tokens[0], dc_quant, top);
-            return;
+            return true;
         }
     }
     let mut block = [0i64; 1024];
     residual4(&mut block, tokens, dc_quant, ac_quant, tx_type, lossless);
     add_back4(samples, plane, x, y, &block, top);
+    false
 }
 
 // Tokens that are taken, 8 by 8 and more.
@@ -305,7 +306,7 @@ fn only_dc(tokens: &[i64], count: usize, tx_type: u8) -> bool
     !any_live(tokens, 1, count - 1)
 }
 
-// The residual of tokens that are taken, into the plane.
+// The residual of tokens that are taken, into the plane. True only where no token but the first is live.
 fn add_residual(
     samples: &mut [u16],
     plane: Plane,
@@ -318,12 +319,12 @@ fn add_residual(
     tx_type: u8,
     lossless: bool,
     top: u16,
-)
+) -> bool
     requires { ⌜ SamplesOf plane (now samples) × Accepted size «dc_quant» «ac_quant» «tx_type» lossless (now tokens) ⌝ }
-    ensures { λ _. ⌜ now (samples .exit) ≡ added plane top x y size «dc_quant» «ac_quant» «tx_type» lossless (now (tokens .entry)) (now (samples .entry)) ⌝ }
+    ensures { λ r. ⌜ (now (samples .exit) ≡ added plane top x y size «dc_quant» «ac_quant» «tx_type» lossless (now (tokens .entry)) (now (samples .entry))) × (r ≡ true → live 1 (length (now (tokens .entry)) - 1) (now (tokens .entry)) ≡ false) ⌝ }
 {
     if size == 0 {
-        reconstruct_4(
+        return reconstruct_4(
             samples,
             plane,
             x,
@@ -335,11 +336,10 @@ fn add_residual(
             lossless,
             top,
         );
-        return;
     }
     if only_dc(tokens, tokens.len(), tx_type) {
         reconstruct_flat(samples, plane, x, y, size, tokens[0], dc_quant, top);
-        return;
+        return true;
     }
     reconstruct_n(
         samples,
@@ -353,6 +353,7 @@ fn add_residual(
         tx_type,
         top,
     );
+    false
 }
 
 // The residual of coefficients of 16 bits whose total is too great for lines of 16 bits, into the plane.
@@ -376,7 +377,14 @@ fn add_wide(
     plane::add_back(samples, plane, x, y, &block, n0, n0, top);
 }
 
-// Whether the block is done by numbers of 16 bits, which need no look at the limits: none is near to one. Else nothing is changed.
+// How the quick way went: not taken, done, or done where no token but the first is live.
+enum Way {
+    Untaken,
+    Done,
+    Alone,
+}
+
+// The block done by numbers of 16 bits, which need no look at the limits: none is near to one. Else nothing is changed.
 fn quick(
     samples: &mut [u16],
     plane: Plane,
@@ -388,24 +396,122 @@ fn quick(
     ac_quant: AcQuant,
     tx_type: u8,
     top: u16,
-) -> bool
+) -> Way
     requires { ⌜ SamplesOf plane (now samples) × (1 ≤ size → Lent size «dc_quant» «ac_quant» «tx_type» (now tokens)) ⌝ }
     ensures { λ r. ⌜ Tried plane top x y size «dc_quant» «ac_quant» «tx_type» (now (tokens .entry)) (now (samples .entry)) r (now (samples .exit)) ⌝ }
 {
     if size == 0 {
-        return false;
+        return Way::Untaken;
     }
     let mut z = [0i16; 1024];
     let made = residual16::residual(&mut z, tokens, size, dc_quant, ac_quant, tx_type);
-    match made {
-        Made::Residual => plane16::add_back(samples, plane, x, y, &z, side(size + 2), top),
-        Made::Coefficients => add_wide(samples, plane, x, y, size, &z, tx_type, top),
-        Made::Nothing => return false,
-    }
-    true
+    let way = match made {
+        Made::Residual => Way::Done,
+        Made::Flat => Way::Alone,
+        Made::Coefficients => {
+            add_wide(samples, plane, x, y, size, &z, tx_type, top);
+            return Way::Done;
+        }
+        Made::Nothing => return Way::Untaken,
+    };
+    plane16::add_back(samples, plane, x, y, &z, side(size + 2), top);
+    way
+}
+
+// The answer; `alone` is true only where no token but the first is live.
+pub struct Told {
+    pub answer: Answer,
+    pub alone: bool,
 }
 
 // The block's residual added to the samples at (x, y), as far as the plane has them. Refused, nothing is changed.
+pub fn reconstruct_told(
+    samples: &mut [u16],
+    plane: Plane,
+    x: usize,
+    y: usize,
+    tx_sz: u32,
+    tokens: &[i64],
+    dc_quant: DcQuant,
+    ac_quant: AcQuant,
+    tx_type: u8,
+    lossless: bool,
+    bit_depth: u32,
+) -> Told
+    ensures { λ r. ⌜ Reconstructed (record { samples = now (samples .entry); plane = plane; x = x; y = y; size = «tx_sz»; tokens = now (tokens .entry); dc = «dc_quant»; ac = «ac_quant»; tx-type = «tx_type»; lossless = lossless; depth = «bit_depth» }) (r .answer) (now (samples .exit)) × (r .alone ≡ true → live 1 (length (now (tokens .entry)) - 1) (now (tokens .entry)) ≡ false) ⌝ }
+{
+    let shape = tokens::check(
+        samples.len(),
+        plane,
+        tx_sz,
+        tokens.len(),
+        dc_quant,
+        ac_quant,
+        tx_type,
+        lossless,
+        bit_depth,
+    );
+    if code(shape) != 0 {
+        return Told {
+            answer: shape,
+            alone: false,
+        };
+    }
+    let top = largest(bit_depth);
+    let way = quick(
+        samples,
+        plane,
+        x,
+        y,
+        tx_sz,
+        tokens,
+        dc_quant,
+        ac_quant,
+        tx_type,
+        top,
+    );
+    match way {
+        Way::Untaken => {}
+        Way::Done => {
+            return Told {
+                answer: shape,
+                alone: false,
+            };
+        }
+        Way::Alone => {
+            return Told {
+                answer: shape,
+                alone: true,
+            };
+        }
+    }
+    let answer = tokens::check_tokens(tokens, tx_sz, dc_quant, ac_quant, bit_depth);
+    if code(answer) != 0 {
+        return Told {
+            answer: answer,
+            alone: false,
+        };
+    }
+    let alone = add_residual(
+        samples,
+        plane,
+        x,
+        y,
+        tx_sz,
+        tokens,
+        dc_quant,
+        ac_quant,
+        tx_type,
+        lossless,
+        top,
+    );
+    Told {
+        answer: answer,
+        alone: alone,
+    }
+}
+
+// The same, and the answer by itself.
 pub fn reconstruct_block(
     samples: &mut [u16],
     plane: Plane,
@@ -421,51 +527,18 @@ pub fn reconstruct_block(
 ) -> Answer
     ensures { λ r. ⌜ Reconstructed (record { samples = now (samples .entry); plane = plane; x = x; y = y; size = «tx_sz»; tokens = now (tokens .entry); dc = «dc_quant»; ac = «ac_quant»; tx-type = «tx_type»; lossless = lossless; depth = «bit_depth» }) r (now (samples .exit)) ⌝ }
 {
-    let shape = tokens::check(
-        samples.len(),
+    let told = reconstruct_told(
+        samples,
         plane,
+        x,
+        y,
         tx_sz,
-        tokens.len(),
+        tokens,
         dc_quant,
         ac_quant,
         tx_type,
         lossless,
         bit_depth,
     );
-    if code(shape) != 0 {
-        return shape;
-    }
-    let top = largest(bit_depth);
-    if quick(
-        samples,
-        plane,
-        x,
-        y,
-        tx_sz,
-        tokens,
-        dc_quant,
-        ac_quant,
-        tx_type,
-        top,
-    ) {
-        return shape;
-    }
-    let answer = tokens::check_tokens(tokens, tx_sz, dc_quant, ac_quant, bit_depth);
-    if code(answer) != 0 {
-        return answer;
-    }
-    add_residual(
-        samples,
-        plane,
-        x,
-        y,
-        tx_sz,
-        tokens,
-        dc_quant,
-        ac_quant,
-        tx_type,
-        lossless,
-        top,
-    );
-    answer
+    told.answer
 }

@@ -1,5 +1,6 @@
 pub mod OneClass
 pub mod Notes
-pub mod TopBit
+pub mod Above
+pub mod Tally
 pub mod Table
 pub mod History

@@ -2,7 +2,7 @@
 use mathlib.Core.Path.{_≡_, refl, sym, ap, _∙_}
 use mathlib.Core.Bool.{Bool, true, false, cond}
 use mathlib.Core.List.{List}
-use Prim.Native.Nat.{ℕ, zero, suc, _+_, _-_, _*_, _/_, _%_, _≤_, _<_}
+use Prim.Native.Nat.{ℕ, zero, suc, _+_, _*_, _/_, _%_, _≤_, _<_}
 use native.Mathlib.Decide.{decLt, ℕ-discrete}
 use native.Mathlib.Nat as NatL
 use native.Mathlib.Omega.{arith}
@@ -18,7 +18,7 @@ use Rattle.answers.specs.Sizes.{side, area}
 use Rattle.blocks.specs.Block.{live}
 use Rattle.report.specs.Classes.{CLASSES, shares, one, itself}
 use Rattle.report.specs.Report.{noted}
-use Rattle.report.specs.Inner.{IsClass, Listed, Noted, Room, Taken}
+use Rattle.report.specs.Inner.{IsClass, Listed, Grown, Noted, Room, Taken}
 use Rattle.report.proofs.OneClass.{zero-class, share-is, shares-none, shares-more, shares-grow, shares-zeros}
 
 -- size and class of an entry
@@ -28,50 +28,65 @@ parts k = sym (NatL.div-add-mod' k 11)
 class-below : (k : ℕ) → k % 11 < 11
 class-below k = NatL.mod-lt k (omega arith)
 
+-- ---- a list that has grown
+pub grown-none : {size : ℕ} (a : ℕ → ℕ) (l : List ℕ) → Grown size a a l l
+grown-none a l = record { as-long = refl; grown = λ k h. refl }
+
+-- one entry grows by what its class has more, and no other class has more
+pub grow-at : (size c v : ℕ) (a b : ℕ → ℕ) (l l′ : List ℕ) → c < CLASSES → length l′ ≡ length l
+    → ((k : ℕ) → k < length l → getD l′ k 0 ≡ getD l k 0 + cond (eqb k (size * 11 + c)) v 0)
+    → ((d : ℕ) → d < CLASSES → b d ≡ a d + cond (eqb d c) v 0)
+    → Grown size a b l l′
+grow-at size c v a b l l′ h as-long changed added = record { as-long = as-long; grown = grown }
+  where
+    grown : (k : ℕ) → k < length l → getD l′ k 0 + cond (eqb (k / 11) size) (a (k % 11)) 0 ≡ getD l k 0 + cond (eqb (k / 11) size) (b (k % 11)) 0
+    grown k q = go (ℕ-discrete (k / 11) size) (ℕ-discrete (k % 11) c)
+      where
+        go : Dec (k / 11 ≡ size) → Dec (k % 11 ≡ c) → getD l′ k 0 + cond (eqb (k / 11) size) (a (k % 11)) 0 ≡ getD l k 0 + cond (eqb (k / 11) size) (b (k % 11)) 0
+        go (yes e) (yes r) =
+            rw (eq-eqb (k / 11) size e)
+            (omega (
+              arith,
+              rw (eq-eqb k (size * 11 + c) (omega (arith, parts k))) at (changed k q),
+              rw (eq-eqb (k % 11) c r) at (added (k % 11) (class-below k)),
+            ))
+        go (yes e) (no r) =
+            rw (eq-eqb (k / 11) size e)
+            (omega (
+              arith,
+              rw (ne-eqb k (size * 11 + c) (λ (z : k ≡ size * 11 + c). r (omega (arith, parts k)))) at (changed k q),
+              rw (ne-eqb (k % 11) c r) at (added (k % 11) (class-below k)),
+            ))
+        go (no e) r =
+            rw (ne-eqb (k / 11) size e)
+            (omega (arith, rw (ne-eqb k (size * 11 + c) (λ (z : k ≡ size * 11 + c). e (omega (arith, parts k, class-below k)))) at (changed k q)))
+
+pub grown-join : {size : ℕ} {a b d : ℕ → ℕ} {l m n : List ℕ} → Grown size a b l m → Grown size b d m n → Grown size a d l n
+grown-join p q =
+    record {
+      as-long = q .as-long ∙ p .as-long;
+      grown = λ k h. omega (arith, p .grown k h, q .grown k (omega (arith, p .as-long)));
+    }
+
+-- an entry is set
+pub bumped : (K v : ℕ) (l : List ℕ) (k : ℕ) → k < length l → getD (set l K (getD l K 0 + v)) k 0 ≡ getD l k 0 + cond (eqb k K) v 0
+bumped K v l k q = go (ℕ-discrete k K)
+  where
+    go : Dec (k ≡ K) → getD (set l K (getD l K 0 + v)) k 0 ≡ getD l k 0 + cond (eqb k K) v 0
+    go (yes e) = rw (sym e, eq-eqb k k refl) (getD-set-same l k (getD l k 0 + v) 0 q)
+    go (no ne) = getD-set-other l K k (getD l K 0 + v) 0 ne ∙ rw (ne-eqb k K ne) (omega arith)
+
+-- ---- notes
 module _ (f : ℕ → ℕ) (size : ℕ) (tokens : List ℤ) where
   pub note-none : (start : ℕ) (l : List ℕ) → Noted f size start start tokens l l
-  note-none start l = record { as-long = refl; grown = λ k h. refl }
+  note-none start l = record { note = grown-none _ l }
 
   -- one entry grows by what the tokens add to its class, and they add nothing to any other
-  pub note-at : (c v start end : ℕ) (l l′ : List ℕ) → c < CLASSES → length l′ ≡ length l
+  note-at : (c v start end : ℕ) (l l′ : List ℕ) → c < CLASSES → length l′ ≡ length l
       → ((k : ℕ) → k < length l → getD l′ k 0 ≡ getD l k 0 + cond (eqb k (size * 11 + c)) v 0)
       → ((d : ℕ) → d < CLASSES → shares f d end tokens ≡ shares f d start tokens + cond (eqb d c) v 0)
       → Noted f size start end tokens l l′
-  note-at c v start end l l′ h as-long changed added = record { as-long = as-long; grown = grown }
-    where
-      grown : (k : ℕ) → k < length l
-          → getD l′ k 0 + cond (eqb (k / 11) size) (shares f (k % 11) start tokens) 0
-          ≡ getD l k 0 + cond (eqb (k / 11) size) (shares f (k % 11) end tokens) 0
-      grown k q = go (ℕ-discrete (k / 11) size) (ℕ-discrete (k % 11) c)
-        where
-          go : Dec (k / 11 ≡ size) → Dec (k % 11 ≡ c)
-              → getD l′ k 0 + cond (eqb (k / 11) size) (shares f (k % 11) start tokens) 0
-              ≡ getD l k 0 + cond (eqb (k / 11) size) (shares f (k % 11) end tokens) 0
-          go (yes e) (yes r) =
-              rw (eq-eqb (k / 11) size e)
-              (omega (
-                arith,
-                rw (eq-eqb k (size * 11 + c) (omega (arith, parts k))) at (changed k q),
-                rw (eq-eqb (k % 11) c r) at (added (k % 11) (class-below k)),
-              ))
-          go (yes e) (no r) =
-              rw (eq-eqb (k / 11) size e)
-              (omega (
-                arith,
-                rw (ne-eqb k (size * 11 + c) (λ (z : k ≡ size * 11 + c). r (omega (arith, parts k)))) at (changed k q),
-                rw (ne-eqb (k % 11) c r) at (added (k % 11) (class-below k)),
-              ))
-          go (no e) r =
-              rw (ne-eqb (k / 11) size e)
-              (omega (arith, rw (ne-eqb k (size * 11 + c) (λ (z : k ≡ size * 11 + c). e (omega (arith, parts k, class-below k)))) at (changed k q)))
-
-  -- an entry is set
-  bumped : (K v : ℕ) (l : List ℕ) (k : ℕ) → k < length l → getD (set l K (getD l K 0 + v)) k 0 ≡ getD l k 0 + cond (eqb k K) v 0
-  bumped K v l k q = go (ℕ-discrete k K)
-    where
-      go : Dec (k ≡ K) → getD (set l K (getD l K 0 + v)) k 0 ≡ getD l k 0 + cond (eqb k K) v 0
-      go (yes e) = rw (sym e, eq-eqb k k refl) (getD-set-same l k (getD l k 0 + v) 0 q)
-      go (no ne) = getD-set-other l K k (getD l K 0 + v) 0 ne ∙ rw (ne-eqb k K ne) (omega arith)
+  note-at c v start end l l′ h as-long changed added = record { note = grow-at size c v _ _ l l′ h as-long changed added }
 
   -- one token
   pub note-token : (c n : ℕ) (l : List ℕ) → IsClass (natAbs (getD tokens n (pos 0))) c
@@ -83,18 +98,14 @@ module _ (f : ℕ → ℕ) (size : ℕ) (tokens : List ℤ) where
 
   -- notes follow each other
   pub note-join : {from mid to : ℕ} {a b d : List ℕ} → Noted f size from mid tokens a b → Noted f size mid to tokens b d → Noted f size from to tokens a d
-  note-join {from} {mid} {to} {a} {b} {d} p q =
-      record {
-        as-long = q .as-long ∙ p .as-long;
-        grown = λ k h. omega (arith, p .grown k h, q .grown k (omega (arith, p .as-long)));
-      }
+  note-join p q = record { note = grown-join (p .note) (q .note) }
 
   -- the whole block
   pub note-all : (n : ℕ) (a b : List ℕ) → Noted f size 0 n tokens a b → b ≡ noted f size n tokens a
   unfolding noted
   note-all n a b p =
-      tabulate-is 0 (λ k. getD a k 0 + cond (eqb (k / 11) size) (shares f (k % 11) n tokens) 0) b (length a) (p .as-long)
-      (λ k h. plain k (eqb (k / 11) size) (p .grown k h))
+      tabulate-is 0 (λ k. getD a k 0 + cond (eqb (k / 11) size) (shares f (k % 11) n tokens) 0) b (length a) (p .note .as-long)
+      (λ k h. plain k (eqb (k / 11) size) (p .note .grown k h))
     where
       plain : (k : ℕ) (x : Bool) → getD b k 0 + cond x (shares f (k % 11) 0 tokens) 0 ≡ getD a k 0 + cond x (shares f (k % 11) n tokens) 0
           → getD b k 0 ≡ getD a k 0 + cond x (shares f (k % 11) n tokens) 0
@@ -118,7 +129,7 @@ module _ (size start n : ℕ) (tokens : List ℤ) (zeros : (i : ℕ) → i < n �
       let e : size * 11 + 0 ≡ size * 11 = omega arith in
       let m : n * 1 ≡ n = omega arith in
       note-at one size tokens 0 n start (start + n) l _ (omega arith) (length-set l (size * 11) _)
-      (λ k q. rw e (bumped one size tokens (size * 11) n l k q))
+      (λ k q. rw e (bumped (size * 11) n l k q))
       (λ d h. added one d h ∙ rw m)
 
   pub zeros-summed : (l : List ℕ) → Noted itself size start (start + n) tokens l l
@@ -147,8 +158,8 @@ module _ (size from n : ℕ) (tokens : List ℤ) (taken : Taken tokens) (inside 
       case false e = omega (arith, e)
 
       go : Dec (k < length l) → getD l′ k 0 ≤ getD l k 0 + n * b
-      go (yes q) = case (eqb (k / 11) size) (p .grown k q)
-      go (no q) = rw (List·getD-eq-default l′ 0 {n = k} (omega (arith, p .as-long))) (omega arith)
+      go (yes q) = case (eqb (k / 11) size) (p .note .grown k q)
+      go (no q) = rw (List·getD-eq-default l′ 0 {n = k} (omega (arith, p .note .as-long))) (omega arith)
 
   pub room-after : {rest : ℕ} {counts sums counts′ sums′ : List ℕ} → Room (n + rest) counts sums
       → Noted one size from (from + n) tokens counts counts′ → Noted itself size from (from + n) tokens sums sums′ → Room rest counts′ sums′
@@ -212,3 +223,11 @@ area-ends (suc zero) h = (omega arith, omega arith)
 area-ends (suc (suc zero)) h = (omega arith, omega arith)
 area-ends (suc (suc (suc zero))) h = (omega arith, omega arith)
 area-ends (suc (suc (suc (suc size)))) h = absurd (omega arith)
+
+-- 8 by 8 and more is parts of sixty-four
+pub area-parts : (size : ℕ) → (size ≡ 0 → ⊥) → size ≤ 3 → (area (size + 2) ≡ area (size + 2) / 64 * 64) × (area (size + 2) / 64 ≤ 16)
+area-parts zero n h = absurd (n refl)
+area-parts (suc zero) n h = (refl, omega arith)
+area-parts (suc (suc zero)) n h = (refl, omega arith)
+area-parts (suc (suc (suc zero))) n h = (refl, omega arith)
+area-parts (suc (suc (suc (suc size)))) n h = absurd (omega arith)

@@ -2,7 +2,7 @@
 use mathlib.Core.Path.{_≡_}
 use mathlib.Core.Bool.{false}
 use mathlib.Core.List.{List}
-use Prim.Native.Nat.{ℕ, _+_, _*_, _≤_, _<_}
+use Prim.Native.Nat.{ℕ, _+_, _-_, _*_, _≤_, _<_}
 use lib.IntN.{ℤ, pos, natAbs}
 use lib.ListN.{length, getD, replicate}
 use Rattle.whole.specs.Lists.{fill}
@@ -12,10 +12,11 @@ use Rattle.quant.specs.declared.DcQuant.{DcQuant}
 use Rattle.quant.specs.declared.AcQuant.{AcQuant}
 use Rattle.quant.specs.Places.{quantizerAt}
 use Rattle.quant.specs.Token.{dequant}
+use Rattle.blocks.specs.Block.{live}
 use Rattle.blocks.specs.Inner.{Possible}
 use Rattle.blocks.specs.Inverse.{inverse2d}
 use Rattle.residual16.specs.declared.Made.{Made}
-use Rattle.residual16.specs.declared.Made.the-variants.{Residual, Coefficients, Nothing}
+use Rattle.residual16.specs.declared.Made.the-variants.{Residual, Flat, Coefficients, Nothing}
 
 -- the coefficients of a block's tokens, in front of zeros
 unfoldable pub coefsOf : ℕ → DcQuant → AcQuant → List ℤ → List ℤ
@@ -39,8 +40,9 @@ pub record Dequantized (size : ℕ) (dc : DcQuant) (ac : AcQuant) (tokens z : Li
   pub small : (k : ℕ) → k < length tokens → natAbs (getD tokens k (pos 0)) ≤ 16384
   pub made : z ≡ coefsOf size dc ac tokens
 
--- what stands in z
+-- what stands in z; flat, no token but the first is live
 abbrev pub Stands : ℕ → DcQuant → AcQuant → ℕ → List ℤ → List ℤ → Made → Type 0
 Stands size dc ac tx-type tokens z Residual = Served size dc ac tx-type tokens z
+Stands size dc ac tx-type tokens z Flat = Served size dc ac tx-type tokens z × (live 1 (length tokens - 1) tokens ≡ false)
 Stands size dc ac tx-type tokens z Coefficients = Dequantized size dc ac tokens z
 Stands size dc ac tx-type tokens z Nothing = Unit {0}

@@ -151,9 +151,10 @@ pub fn widen(block: &mut [i64; 1024], z: &[i16; 1024], count: usize)
     }
 }
 
-// What stands in the block: the residual, the coefficients, or nothing that is of use.
+// What stands in the block: the residual, that of place 0 alone, the coefficients, or nothing that is of use.
 pub enum Made {
     Residual,
+    Flat,
     Coefficients,
     Nothing,
 }
@@ -179,7 +180,7 @@ pub fn residual(
             return Made::Nothing;
         }
         residual_dc(z, tokens[0], size, dc);
-        return Made::Residual;
+        return Made::Flat;
     }
     if most + most <= blocks::or_plus_most(tokens, 0, count, most) {
         return Made::Nothing;

@@ -9,9 +9,10 @@ use mir.Syntax.{w64}
 use mir.ValLaws.{toZ-ofZ}
 use borrow.Author.Needs.{needs}
 use Rattle.answers.specs.Sizes.{area}
+use Rattle.residual16.proofs.Numbers.{never}
 use Rattle.reconstruct.specs.Inner.{Accepted}
 use Rattle.tokens.proofs.Sizes.{dc-fine}
-use Rattle.reconstruct.proofs.Residual.{size-most, some-token, not-lossless, lossy-taken, lossy-added, flat-added, first-within}
+use Rattle.reconstruct.proofs.Residual.{size-most, some-token, not-lossless, lossy-taken, lossy-added, only-dc-is, flat-added, first-within}
 use Rattle.reconstruct.proofs.add_residual.Statement.{statement}
 use Rattle.reconstruct.proofs.add_residual.Tie as tie
 
@@ -42,9 +43,11 @@ returns-2 c =
     let a = s .args in
     let r = c .before .before .before in
     let e = toZ-ofZ w64 (getD (a .tokens .now) 0 (pos 0)) (record { sfits = r .reconstruct-flat-arg2 .given }) in
-    rw e at (c .before .before .reconstruct-flat .ensures)
-    ∙ flat-added (a .plane) (a .top) (a .x) (a .y) (a .size) (a .dc-quant) (a .ac-quant) (a .tx-type) (a .lossless) (a .tokens .now) (a .samples .now) (s .pre .0) (s .pre .1)
-    (lossy (r .before .before .before .before)) (sym (r .before .before .before .only-dc .ensures) ∙ r .before .before .if2 .taken)
+    let o = sym (r .before .before .before .only-dc .ensures) ∙ r .before .before .if2 .taken in (
+      rw e at (c .before .before .reconstruct-flat .ensures)
+          ∙ flat-added (a .plane) (a .top) (a .x) (a .y) (a .size) (a .dc-quant) (a .ac-quant) (a .tx-type) (a .lossless) (a .tokens .now) (a .samples .now) (s .pre .0) (s .pre .1) (lossy (r .before .before .before .before)) o,
+      λ q. only-dc-is (length (a .tokens .now)) (a .tx-type) (a .tokens .now) o .1,
+    )
 
 reconstruct-n-requires : tie.Need-reconstruct-n-requires
 reconstruct-n-requires c κs =
@@ -55,9 +58,11 @@ reconstruct-n-requires c κs =
 returns-3 : tie.Need-returns-3
 returns-3 c =
     let s = c .before .before .before .before .before .before .before .before in
-    let a = s .args in
-    c .before .before .reconstruct-n .ensures
-    ∙ lossy-added (a .plane) (a .top) (a .x) (a .y) (a .size) (a .dc-quant) (a .ac-quant) (a .tx-type) (a .lossless) (a .tokens .now) (a .samples .now) (lossy (c .before .before .before .before .before .before))
+    let a = s .args in (
+      c .before .before .reconstruct-n .ensures
+          ∙ lossy-added (a .plane) (a .top) (a .x) (a .y) (a .size) (a .dc-quant) (a .ac-quant) (a .tx-type) (a .lossless) (a .tokens .now) (a .samples .now) (lossy (c .before .before .before .before .before .before)),
+      λ q. never q,
+    )
 
 pub add-residual-spec : {M : Type 1} → statement M
 add-residual-spec =

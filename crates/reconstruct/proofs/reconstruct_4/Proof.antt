@@ -12,8 +12,9 @@ use Rattle.tokens.proofs.Sizes.{dc-fine}
 use Rattle.plane.proofs.Block.{same-residuals}
 use Rattle.blocks.specs.Inverse.{inverse2d}
 use Rattle.blocks.proofs.Inverse.{inverse2d-length}
+use Rattle.residual16.proofs.Numbers.{never}
 use Rattle.reconstruct.specs.Reconstruct.{added}
-use Rattle.reconstruct.proofs.Residual.{inFront, block-length, residual-within, residual-at, flat-added, first-within}
+use Rattle.reconstruct.proofs.Residual.{inFront, block-length, residual-within, residual-at, only-dc-is, flat-added, first-within}
 use Rattle.reconstruct.proofs.reconstruct_4.Statement.{statement}
 use Rattle.reconstruct.proofs.reconstruct_4.Tie as tie
 
@@ -35,9 +36,12 @@ returns c =
     let a = s .args in
     let e = toZ-ofZ w64 (getD (a .tokens .now) 0 (pos 0)) (record { sfits = r .reconstruct-flat4-arg2 .given }) in
     let n : 16 ≡ length (a .tokens .now) = sym (s .pre .1 .all) in
-    rw e at (c .before .before .reconstruct-flat4 .ensures)
-    ∙ flat-added (a .plane) (a .top) (a .x) (a .y) 0 (a .dc-quant) (a .ac-quant) (a .tx-type) (a .lossless) (a .tokens .now) (a .samples .now) (s .pre .0) (s .pre .1)
-    (not-true (a .lossless) (r .before .before .before .before .if1 .taken)) (rw n at (sym (r .before .before .before .only-dc .ensures) ∙ r .before .before .if2 .taken))
+    let o = rw n at (sym (r .before .before .before .only-dc .ensures) ∙ r .before .before .if2 .taken) in (
+      rw e at (c .before .before .reconstruct-flat4 .ensures)
+          ∙ flat-added (a .plane) (a .top) (a .x) (a .y) 0 (a .dc-quant) (a .ac-quant) (a .tx-type) (a .lossless) (a .tokens .now) (a .samples .now) (s .pre .0) (s .pre .1)
+          (not-true (a .lossless) (r .before .before .before .before .if1 .taken)) o,
+      λ q. only-dc-is (length (a .tokens .now)) (a .tx-type) (a .tokens .now) o .1,
+    )
 
 residual4-requires : tie.Need-residual4-requires
 residual4-requires c κs = (refl, c .before .before .before .pre .1)
@@ -63,11 +67,13 @@ returns-2 : tie.Need-returns-2
 unfolding added
 returns-2 c =
     let s = c .before .before .before .before .before .before .before .before .before in
-    let a = s .args in
-    c .before .before .add-back4 .ensures
-    ∙ rw (residuals (c .before .before .before .before .before))
-    (same-residuals (a .plane) (a .samples .now) (s .pre .0) (a .top) (a .x) (a .y) 4 _ _
-    (residual-at 0 (a .dc-quant) (a .ac-quant) (a .tx-type) (a .lossless) (a .tokens .now) (s .pre .1)))
+    let a = s .args in (
+      c .before .before .add-back4 .ensures
+          ∙ rw (residuals (c .before .before .before .before .before))
+          (same-residuals (a .plane) (a .samples .now) (s .pre .0) (a .top) (a .x) (a .y) 4 _ _
+          (residual-at 0 (a .dc-quant) (a .ac-quant) (a .tx-type) (a .lossless) (a .tokens .now) (s .pre .1))),
+      λ q. never q,
+    )
 
 pub reconstruct-4-spec : {M : Type 1} → statement M
 reconstruct-4-spec =

@@ -1,7 +1,7 @@
-use mathlib.Core.Path.{_∙_}
+use mathlib.Core.Path.{sym, _∙_}
 use native.Mathlib.Omega.{arith}
 use borrow.Author.Needs.{needs}
-use Rattle.report.proofs.TopBit.{total-past, total-room}
+use Rattle.report.proofs.Above.{total-past, total-room}
 use Rattle.report.proofs.bad_report.Statement.{statement}
 use Rattle.report.proofs.bad_report.Tie as tie
 
@@ -10,7 +10,13 @@ returns c = let a = c .before .args in total-past (a .more) (a .counts .now) (a 
 
 returns-2 : tie.Need-returns-2
 returns-2 c =
-    let a = c .before .before .args in c .excesses .ensures ∙ total-room (a .more) (a .counts .now) (a .sums .now) (omega arith)
+    let g = c .before in
+    let a = g .before .before .args in
+    sym (g .surely-good .ensures (c .if2 .taken)) ∙ total-room (a .more) (a .counts .now) (a .sums .now) (omega arith)
+
+returns-3 : tie.Need-returns-3
+returns-3 c =
+    let a = c .before .before .before .before .args in c .excesses .ensures ∙ total-room (a .more) (a .counts .now) (a .sums .now) (omega arith)
 
 pub bad-report-spec : {M : Type 1} → statement M
-bad-report-spec = tie.close (tie.spec returns (λ c κs. search needs) returns-2)
+bad-report-spec = tie.close (tie.spec returns (λ c κs. search needs) returns-2 (λ c κs. search needs) returns-3)

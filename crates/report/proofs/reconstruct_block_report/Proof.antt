@@ -1,15 +1,18 @@
 -- `report::reconstruct_block_report` meets its contract.
 use mathlib.Core.Path.{_≡_, sym, ap, _∙_}
 use mathlib.Core.Bool.{false, _||_}
+use mathlib.Core.List.{List}
+use Prim.Native.Nat.{ℕ}
+use native.Mathlib.Omega.{arith}
 use borrow.Author.Needs.{needs}
 use lib.ListN.{length}
 use Rattle.reconstruct.specs.Reconstruct as R
 use Rattle.report.specs.Classes.{one, itself}
-use Rattle.report.specs.Report.{Input, answerOf, badTotal, badSums}
-use Rattle.report.specs.Inner.{orFifteen}
-use Rattle.report.proofs.Notes.{note-all}
-use Rattle.report.proofs.Table.{good, passes, fails, samples-stay, list-stays, same-samples, list-done, not-zero, corner-answer}
-use Rattle.report.proofs.TopBit.{room}
+use Rattle.report.specs.Report.{Input, answerOf, badTotal, badSums, Reported}
+use Rattle.report.specs.Inner.{Noted, Room, orFifteen}
+use Rattle.report.proofs.Notes.{note-all, area-ends}
+use Rattle.report.proofs.Table.{Good, good, passes, fails, samples-stay, list-stays, same-samples, list-done, not-zero, corner-answer}
+use Rattle.report.proofs.Above.{room}
 use Rattle.report.proofs.reconstruct_block_report.Statement.{statement}
 use Rattle.report.proofs.reconstruct_block_report.Tie as tie
 
@@ -59,7 +62,7 @@ returns-2 c =
     let b = c .before .before .before .before in
     let s = b .before .before .before .before .before .before .before in
     let u = input s in
-    let r = b .reconstruct-block .ensures in
+    let r = b .reconstruct-told .ensures .0 in
     let e = passes u (passed (b .before .before)) in
     let ne : answerOf u ≡ 0 → ⊥ = λ z. c .if2 .taken (c .before .code .ensures ∙ r .answered ∙ e ∙ z) in
     record {
@@ -71,32 +74,56 @@ returns-2 c =
 
 -- the block is done
 done : (c : tie.Else2) → R.answerOf (block (c .before .before .before .before .before .before .before .before .before .before .before)) ≡ 0
-done c = sym (c .before .code .ensures ∙ c .before .before .before .before .reconstruct-block .ensures .answered) ∙ c .if2 .left
+done c = sym (c .before .code .ensures ∙ c .before .before .before .before .reconstruct-told .ensures .0 .answered) ∙ c .if2 .left
+
+-- and the report has room for it
+module _ (d : tie.Else2) where
+  abbrev told : tie.After-reconstruct-told
+  told = d .before .before .before .before
+
+  abbrev begun : tie.Start
+  begun = told .before .before .before .before .before .before .before
+
+  fine : Good (block begun)
+  fine = good (block begun) (done d)
+
+  has-room : Room (length (begun .args .tokens .now)) (begun .args .counts .now) (begun .args .sums .now)
+  has-room = room (length (begun .args .tokens .now)) (begun .args .counts .now) (begun .args .sums .now) (passed (told .before .before))
+
+  finished : (counts sums : List ℕ) → Noted one (begun .args .tx-sz) 0 (length (begun .args .tokens .now)) (begun .args .tokens .now) (begun .args .counts .now) counts
+      → Noted itself (begun .args .tx-sz) 0 (length (begun .args .tokens .now)) (begun .args .tokens .now) (begun .args .sums .now) sums
+      → Reported (input begun) (told .reconstruct-told .result .answer) (told .reconstruct-told .last .0) counts sums
+  finished counts sums p q =
+      let u = input begun in
+      let r = told .reconstruct-told .ensures .0 in
+      let e = passes u (passed (told .before .before)) in
+      let z = sym e ∙ done d in
+      record {
+        answered = r .answered ∙ e;
+        written = r .written ∙ same-samples u e;
+        counted = note-all one (begun .args .tx-sz) (begun .args .tokens .now) (length (begun .args .tokens .now)) (u .counts) counts p ∙ list-done u one (u .counts) z;
+        summed = note-all itself (begun .args .tx-sz) (begun .args .tokens .now) (length (begun .args .tokens .now)) (u .sums) sums q ∙ list-done u itself (u .sums) z;
+      }
+
+count-alone-requires : tie.Need-count-alone-requires
+count-alone-requires c κs =
+    let t = c .before .before in
+    let d = t .before in
+    let g = fine d in
+    let h = area-ends (begun d .args .tx-sz) (g .size-ok) in
+    (g .size-ok, rw (g .length-ok) (omega (arith, h .0)), rw (g .length-ok) (h .1), told d .reconstruct-told .ensures .1 (t .if3 .taken), g .taken, has-room d)
+
+returns-3 : tie.Need-returns-3
+returns-3 c = let d = c .before .before .before .before in finished d _ _ (c .count-alone .ensures .0) (c .count-alone .ensures .1)
 
 count-tokens-requires : tie.Need-count-tokens-requires
 count-tokens-requires c κs =
-    let d = c .before .before in
-    let b = d .before .before .before .before in
-    let s = b .before .before .before .before .before .before .before in
-    let g = good (block s) (done d) in
-    (g .size-ok, g .length-ok, g .taken, rw (g .length-ok) at (room (length (s .args .tokens .now)) (s .args .counts .now) (s .args .sums .now) (passed (b .before .before))))
-
-returns-3 : tie.Need-returns-3
-returns-3 c =
     let d = c .before .before .before in
-    let b = d .before .before .before .before in
-    let s = b .before .before .before .before .before .before .before in
-    let u = input s in
-    let r = b .reconstruct-block .ensures in
-    let e = passes u (passed (b .before .before)) in
-    let z = sym e ∙ done d in
-    let n = c .count-tokens .ensures in
-    record {
-      answered = r .answered ∙ e;
-      written = r .written ∙ same-samples u e;
-      counted = note-all one (s .args .tx-sz) (s .args .tokens .now) (length (s .args .tokens .now)) (u .counts) _ (n .0) ∙ list-done u one (u .counts) z;
-      summed = note-all itself (s .args .tx-sz) (s .args .tokens .now) (length (s .args .tokens .now)) (u .sums) _ (n .1) ∙ list-done u itself (u .sums) z;
-    }
+    let g = fine d in
+    (g .size-ok, g .length-ok, g .taken, rw (g .length-ok) at (has-room d))
+
+returns-4 : tie.Need-returns-4
+returns-4 c = let d = c .before .before .before .before in finished d _ _ (c .count-tokens .ensures .0) (c .count-tokens .ensures .1)
 
 pub reconstruct-block-report-spec : {M : Type 1} → statement M
 reconstruct-block-report-spec =
@@ -110,6 +137,9 @@ reconstruct-block-report-spec =
     (λ c κs. search needs)
     (λ c. search needs)
     returns-2
+    count-alone-requires
+    (λ c. search needs)
+    returns-3
     count-tokens-requires
     (λ c. search needs)
-    returns-3)
+    returns-4)

@@ -18,7 +18,7 @@ use Rattle.weights.specs.Inner.{total}
 use Rattle.residual16.specs.Inner.{coefsOf, Lent, Served}
 use Rattle.residual16.proofs.Numbers.{never, product-less}
 use Rattle.residual16.proofs.Rounding.{area-least}
-use Rattle.residual16.proofs.Coefs.{some, coefs-length, coefs-made, flat-made, flat-small}
+use Rattle.residual16.proofs.Coefs.{only-dc-is, some, coefs-length, coefs-made, flat-made, flat-small}
 use Rattle.residual16.proofs.residual.Statement.{statement}
 use Rattle.residual16.proofs.residual.Tie as tie
 
@@ -85,11 +85,13 @@ returns-2 c =
     let t = d .before .before .before in
     let r = t .before .before in
     let s = start r in
-    let f = rw (toZ-ofZ w64 (getD (s .args .tokens .now) 0 (pos 0)) (record { sfits = g .residual-dc-arg2 .given }), dc-plain s) at (c .residual-dc .ensures) in
-    record {
-      small = flat-small _ _ _ _ _ (lent s) (only t) (omega (arith, first-small d, reaches r .2));
-      made = flat-made _ _ _ _ _ (lent s) (only t) (s .args .z .now) (c .residual-dc .last .0) (s .pre .0) f;
-    }
+    let f = rw (toZ-ofZ w64 (getD (s .args .tokens .now) 0 (pos 0)) (record { sfits = g .residual-dc-arg2 .given }), dc-plain s) at (c .residual-dc .ensures) in (
+      record {
+        small = flat-small _ _ _ _ _ (lent s) (only t) (omega (arith, first-small d, reaches r .2));
+        made = flat-made _ _ _ _ _ (lent s) (only t) (s .args .z .now) (c .residual-dc .last .0) (s .pre .0) f;
+      },
+      rw (lent s .all) (only-dc-is _ _ _ (only t) .1),
+    )
 
 dequantize-requires : tie.Need-dequantize-requires
 dequantize-requires c κs =
