@@ -59,7 +59,8 @@ pub fn dc_value(x: i64, n: u32) -> i64
     primitives::round2(col, blocks::rounding_bits(n))
 }
 
-fn fill_first(block: &mut [i64], count: usize, v: i64)
+// One number at the first `count` places.
+pub fn fill_first(block: &mut [i64], count: usize, v: i64)
     requires { ⌜ count ≤ length (now block) ⌝ }
     ensures { λ _. ⌜ now (block .exit) ≡ fill count (λ k. v) (now (block .entry)) ⌝ }
 {

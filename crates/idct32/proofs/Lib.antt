@@ -4,3 +4,4 @@ pub mod Small
 pub mod Four
 pub mod Answers
 mod Told
+mod Flat

@@ -3,16 +3,17 @@ use answers::Answer;
 ghost use mathlib.Core.Path.{_≡_};
 ghost use mathlib.Core.Bool.{true, false};
 ghost use Prim.Native.Nat.{_≤_};
-ghost use lib.IntN.{pos};
+ghost use lib.IntN.{pos, natAbs};
 ghost use lib.ListN.{length, getD};
 ghost use Rattle.whole.specs.Lists.{fill};
 ghost use Rattle.whole.specs.Round.{Round2};
 ghost use Rattle.whole.specs.Within.{Within};
+ghost use Rattle.answers.specs.declared.Answer.the-variants.{Done};
 ghost use Rattle.answers.specs.Answers.{number};
 ghost use Rattle.answers.specs.Sizes.{side, area};
 ghost use Rattle.narrow.specs.Kept.{short, shorts};
-ghost use Rattle.blocks.specs.Block.{rows, columns};
-ghost use Rattle.blocks.specs.Inner.{Possible};
+ghost use Rattle.blocks.specs.Block.{rows, columns, onlyDc};
+ghost use Rattle.blocks.specs.Inner.{Possible, dcValue};
 ghost use Rattle.blocks.specs.Inverse.{apply, rowPass, columnPass, bits};
 ghost use Rattle.weights.specs.Inner.{total};
 ghost use Rattle.idct32.specs.Engine.{keptRows, keptColumns, within16, Driven32};
@@ -151,6 +152,38 @@ fn give_by_size(block: &mut [i64], work: &[i16; 1024], n: u32)
     }
 }
 
+// Whether the type is 0, place 0 alone is live, and its magnitude at most `most`. A dense block is told by its number at place 1.
+fn is_flat(block: &[i64], count: usize, tx_type: u8, most: u64) -> bool
+    requires { ⌜ (2 ≤ count) × (count ≤ length (now block)) ⌝ }
+    ensures { λ r. ⌜ (r ≡ true → (onlyDc count «tx_type» (now (block .entry)) ≡ true) × (natAbs (getD (now (block .entry)) 0 (pos 0)) ≤ most)) ⌝ }
+{
+    if !dc::only_dc(block, count, tx_type) {
+        return false;
+    }
+    answers::magnitude(block[0]) <= most
+}
+
+// The one number that place 0 gives everywhere; 11585 is cos64(16).
+fn flat_value(x: i32, n: u32) -> i32
+    requires { ⌜ (2 ≤ n) × (n ≤ 5) × Within 32768 x ⌝ }
+    ensures { λ r. ⌜ r ≡ dcValue n x ⌝ }
+{
+    let row = narrow::round14(x * 11585);
+    let column = narrow::round14(row * 11585);
+    round2(column, blocks::rounding_bits(n))
+}
+
+// The residual of such a block, in its place; the answer is 0. No number is wider than 32 bits but those of the block.
+fn give_flat(block: &mut [i64], n: u32, count: usize) -> Answer
+    requires { ⌜ (2 ≤ n) × (n ≤ 5) × (1 ≤ count) × (count ≤ length (now block)) × (natAbs (getD (now block) 0 (pos 0)) ≤ 32767) ⌝ }
+    ensures is { λ r. ⌜ r ≡ Done ⌝ }
+    ensures then { λ _. ⌜ now (block .exit) ≡ fill count (λ k. dcValue n (getD (now (block .entry)) 0 (pos 0))) (now (block .entry)) ⌝ }
+{
+    let v = flat_value(narrow::wide(narrowed(block[0])), n);
+    dc::fill_first(block, count, words::long(v));
+    Answer::Done
+}
+
 // The answer to the numbers of a 4 by 4 block as they are lent. Two calls, so that it stays out of line: inlined, a lossless block has its numbers from the
 // wide registers of the test, one by one.
 fn entry(block: &[i64]) -> Answer
@@ -183,6 +216,10 @@ fn block4(block: &mut [i64], tx_type: u8, lossless: bool) -> Answer
         narrow_small::lossless4(block);
         return Answer::Done;
     }
+    // A number of 16 bits alone comes nearer to zero with each pass.
+    if is_flat(block, 16, tx_type, 32767) {
+        return give_flat(block, 2, 16);
+    }
     let first = entry(block);
     if answers::code(first) != 0 {
         return first;
@@ -203,6 +240,10 @@ fn larger(block: &mut [i64], n: u32, tx_type: u8, lossless: bool) -> Answer
         return answer;
     }
     let count = answers::area(n);
+    // So few magnitudes leave 16 bits nowhere: the law of `passes`.
+    if is_flat(block, count, tx_type, 31883) {
+        return give_flat(block, n, count);
+    }
     let mut work = narrow_lines::zeros();
     if !take(&mut work, block, count) {
         if answers::any_beyond(block, count, answers::COEF_LIMIT) {

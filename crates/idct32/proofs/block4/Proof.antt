@@ -1,4 +1,4 @@
-use mathlib.Core.Path.{_≡_, sym, ap, _∙_}
+use mathlib.Core.Path.{_≡_, refl, sym, ap, _∙_}
 use mathlib.Core.Bool.{true, false}
 use native.Mathlib.Omega.{arith}
 use borrow.Author.Needs.{needs}
@@ -14,6 +14,7 @@ use Rattle.idct.proofs.Answers as D
 use Rattle.idct32.specs.Inner.{Refused4}
 use Rattle.idct32.proofs.Answers.{refused, clear, four-leaves, four-stays, four-lossless}
 use Rattle.idct32.proofs.Work.{short-under}
+use Rattle.idct32.proofs.Flat.{small-flat}
 use Rattle.idct32.proofs.block4.Statement.{statement}
 use Rattle.idct32.proofs.block4.Tie as tie
 
@@ -60,38 +61,52 @@ returns-3 c =
     rw (n .if2 .taken) (four-lossless (s .args .block .now) (s .args .tx-type) (room e) (entered x) (rw (n .if2 .taken) at (zero e (entered x))) (g .lossless4 .ensures))
 
 -- ---- not lossless
-returns-4 : tie.Need-returns-4
-unfolding Refused4
-returns-4 c =
-    let a = c .before .before in
-    let e = a .before .before .before in
-    let s = e .before .before .before in
-    a .entry2 .ensures .1 (λ z. c .if4 .taken (c .before .code3 .ensures ∙ z)) (s .args .tx-type) (s .args .lossless) (passed e)
+give-flat-requires : tie.Need-give-flat-requires
+give-flat-requires c κs =
+    let t = c .before in
+    (omega arith, omega arith, omega arith, room (t .before .before .before .before), t .before .is-flat .ensures (t .if4 .taken) .1)
 
-entered-2 : (c : tie.Else4) → shorts 16 (c .before .before .before .before .before .before .before .before .args .block .now) ≡ true
-entered-2 c = c .before .before .entry2 .ensures .0 (sym (c .before .code3 .ensures) ∙ c .if4 .left)
+returns-4 : tie.Need-returns-4
+returns-4 c =
+    let g = c .before in
+    let t = g .before .before in
+    let n = t .before .before .before in
+    let e = n .before in
+    let f = t .before .is-flat .ensures (t .if4 .taken) in
+    rw (g .give-flat .ensures .0) (small-flat (given (e .before .before .before)) (passed e) (f .0) (g .give-flat .ensures .1) refl (n .if2 .left) (f .1))
 
 returns-5 : tie.Need-returns-5
+unfolding Refused4
 returns-5 c =
-    let i = c .before .before in
-    let x = i .before .before in
-    let n = x .before .before .before .before in
-    let e = n .before in
+    let a = c .before .before in
+    let e = a .before .before .before .before .before .before in
     let s = e .before .before .before in
-    let r = i .lossy4 .ensures in
-    let f = not-true (i .lossy4 .result) (c .if5 .taken) in
-    rw (n .if2 .left, r .1 .1 f)
-    (four-leaves (s .args .block .now) (s .args .tx-type) false (room e) (entered-2 x) (rw (n .if2 .left) at (zero e (entered-2 x))) (sym f ∙ r .0))
+    a .entry2 .ensures .1 (λ z. c .if5 .taken (c .before .code3 .ensures ∙ z)) (s .args .tx-type) (s .args .lossless) (passed e)
+
+entered-2 : (c : tie.Else5) → shorts 16 (c .before .before .before .before .before .before .before .before .before .before .before .args .block .now) ≡ true
+entered-2 c = c .before .before .entry2 .ensures .0 (sym (c .before .code3 .ensures) ∙ c .if5 .left)
 
 returns-6 : tie.Need-returns-6
 returns-6 c =
     let i = c .before .before in
     let x = i .before .before in
-    let n = x .before .before .before .before in
+    let n = x .before .before .before .before .before .before .before in
     let e = n .before in
     let s = e .before .before .before in
     let r = i .lossy4 .ensures in
-    let f = not-false (i .lossy4 .result) (c .if5 .left) in
+    let f = not-true (i .lossy4 .result) (c .if6 .taken) in
+    rw (n .if2 .left, r .1 .1 f)
+    (four-leaves (s .args .block .now) (s .args .tx-type) false (room e) (entered-2 x) (rw (n .if2 .left) at (zero e (entered-2 x))) (sym f ∙ r .0))
+
+returns-7 : tie.Need-returns-7
+returns-7 c =
+    let i = c .before .before in
+    let x = i .before .before in
+    let n = x .before .before .before .before .before .before .before in
+    let e = n .before in
+    let s = e .before .before .before in
+    let r = i .lossy4 .ensures in
+    let f = not-false (i .lossy4 .result) (c .if6 .left) in
     rw (n .if2 .left)
     (four-stays (s .args .block .now) (s .args .tx-type) false (room e) (entered-2 x) (rw (n .if2 .left) at (zero e (entered-2 x))) (sym f ∙ r .0) (r .1 .0 f))
 
@@ -109,12 +124,16 @@ block4-spec =
     (λ c κs. let x = c .before in (room (x .before .before .before .before .before), entered x))
     (λ c. search needs)
     returns-3
-    (λ c κs. room (c .before .before))
-    (λ c κs. search needs)
+    (λ c κs. (omega arith, room (c .before .before)))
+    give-flat-requires
     (λ c. search needs)
     returns-4
-    (λ c κs. let x = c .before in (room (x .before .before .before .before .before), entered-2 x))
+    (λ c κs. room (c .before .before .before .before .before))
+    (λ c κs. search needs)
     (λ c. search needs)
     returns-5
+    (λ c κs. let x = c .before in (room (x .before .before .before .before .before .before .before .before), entered-2 x))
     (λ c. search needs)
-    returns-6)
+    returns-6
+    (λ c. search needs)
+    returns-7)
