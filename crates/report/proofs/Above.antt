@@ -1,32 +1,56 @@
--- The test of a report without branches: what is above the limits, or-ed together.
+-- The test of a report without branches: differences that wrap, or-ed together, and their top bit.
 use mathlib.Core.Path.{_≡_, refl, sym, _∙_}
 use mathlib.Core.Bool.{Bool, true, false, _||_}
 use mathlib.Core.List.{List}
-use Prim.Native.Nat.{ℕ, zero, suc, _+_, _-_, _*_, _/_, _≤_, _<_}
+use Prim.Native.Nat.{ℕ, _+_, _-_, _*_, _/_, _%_, _≤_, _<_}
 use native.Mathlib.Decide.{decLt}
 use native.Mathlib.Nat as NatL
 use native.Mathlib.Numerals.{add-one}
 use native.Mathlib.Omega.{arith}
-use borrow.Author.Tests.{lt-ltb, le-ltb, ltb-false}
-use lib.Bits.{bitOr, or-add-and, and-le-l, and-le-r}
+use borrow.Author.Tests.{le-leb, lt-leb, lt-ltb, le-ltb, ltb-false}
+use lib.Bits.{bitOr, or-add-and, and-le-l, and-le-r, or-lt}
 use lib.Dec.{ltb}
 use lib.ListN.{getD}
 use Rattle.whole.specs.Tests.{anyBelow}
 use Rattle.whole.proofs.Tests.{any-at}
 use Rattle.answers.specs.Limits.{codeable}
-use Rattle.report.specs.Classes.{sumBelow}
+use Rattle.tally.specs.Classes.{sumBelow}
 use Rattle.report.specs.Report.{ENTRIES, TOTAL_LIMIT, total, badTotal, badSums}
-use Rattle.report.specs.Inner.{above, Room}
-use Rattle.report.proofs.OneClass.{sum-part}
+use Rattle.report.specs.Inner.{top}
+use Rattle.tally.specs.Inner.{Room}
+use Rattle.tally.proofs.OneClass.{sum-part}
+
+or-true : (a : Bool) → a || true ≡ true
+or-true true = refl
+or-true false = refl
 
 -- two numbers or-ed
-pub above-or : (a b : ℕ) → above (bitOr a b) ≡ above a || above b
-above-or a b = go (decLt 0 a) (decLt 0 b)
+pub top-or : (a b : ℕ) → top (bitOr a b) ≡ top a || top b
+top-or a b = go (decLt a 9223372036854775808) (decLt b 9223372036854775808)
   where
-    go : Dec (0 < a) → Dec (0 < b) → above (bitOr a b) ≡ above a || above b
-    go (yes p) q = rw (lt-ltb 0 a p) (lt-ltb 0 (bitOr a b) (omega (arith, or-add-and a b, and-le-r a b)))
-    go (no p) (yes q) = rw (le-ltb 0 a (omega arith), lt-ltb 0 b q) (lt-ltb 0 (bitOr a b) (omega (arith, or-add-and a b, and-le-l a b)))
-    go (no p) (no q) = rw (le-ltb 0 a (omega arith), le-ltb 0 b (omega arith)) (le-ltb 0 (bitOr a b) (omega (arith, or-add-and a b)))
+    go : Dec (a < 9223372036854775808) → Dec (b < 9223372036854775808) → top (bitOr a b) ≡ top a || top b
+    go (yes p) (yes q) = rw (lt-leb 9223372036854775808 a p, lt-leb 9223372036854775808 b q) (lt-leb 9223372036854775808 (bitOr a b) (or-lt 63 a b p q))
+    go (yes p) (no q) =
+        rw (lt-leb 9223372036854775808 a p, le-leb 9223372036854775808 b (omega arith))
+        (le-leb 9223372036854775808 (bitOr a b) (omega (arith, or-add-and a b, and-le-l a b)))
+    go (no p) q =
+        rw (le-leb 9223372036854775808 a (omega arith))
+        (le-leb 9223372036854775808 (bitOr a b) (omega (arith, or-add-and a b, and-le-r a b)))
+
+-- a difference that wraps, and what was taken away
+pub wrapped : (limit value r : ℕ) → limit < 9223372036854775808 → r < 18446744073709551616 → value < 18446744073709551616 → (r + value) % 18446744073709551616 ≡ limit
+    → top (bitOr r value) ≡ ltb limit value
+wrapped limit value r l f g e = top-or r value ∙ go (decLt limit value) (decLt value 9223372036854775808)
+  where
+    d : (r + value) / 18446744073709551616 * 18446744073709551616 + (r + value) % 18446744073709551616 ≡ r + value
+    d = NatL.div-add-mod' (r + value) 18446744073709551616
+
+    go : Dec (limit < value) → Dec (value < 9223372036854775808) → top r || top value ≡ ltb limit value
+    go (yes h) (yes p) =
+        rw (le-leb 9223372036854775808 r (omega (arith, d, e)), lt-ltb limit value h) refl
+    go (yes h) (no p) = rw (le-leb 9223372036854775808 value (omega arith), lt-ltb limit value h) (or-true (top r))
+    go (no h) p =
+        rw (lt-leb 9223372036854775808 r (omega (arith, d, e)), lt-leb 9223372036854775808 value (omega arith), le-ltb limit value (omega arith)) refl
 
 or-comm : (a b : Bool) → a || b ≡ b || a
 or-comm true true = refl
@@ -83,24 +107,7 @@ unfolding sumBelow
 sum-none f = refl
 
 -- the whole: every sum, and the total
-pub all-tested : (counts sums : List ℕ) (room a e t : ℕ) → above a ≡ anyBelow (λ k. ltb (getD counts k 0 * codeable 12) (getD sums k 0)) ENTRIES
-    → t ≡ sumBelow (λ k. getD counts k 0) ENTRIES → above e ≡ ltb room t → above (bitOr a e) ≡ badSums counts sums || ltb room (total counts)
+pub all-tested : (counts sums : List ℕ) (room a r t : ℕ) → top a ≡ anyBelow (λ k. ltb (getD counts k 0 * codeable 12) (getD sums k 0)) ENTRIES
+    → t ≡ sumBelow (λ k. getD counts k 0) ENTRIES → top r ≡ ltb room t → top (bitOr a r) ≡ badSums counts sums || ltb room (total counts)
 unfolding badSums total
-all-tested counts sums room a e t p q r = above-or a e ∙ rw (p, r, q)
-
--- ---- the rough total
-pub sum-most : (f : ℕ → ℕ) (n : ℕ) → sumBelow f n ≤ sumBelow (λ k. f k / 64) n * 64 + n * 64
-unfolding sumBelow
-sum-most f zero = omega arith
-sum-most f (suc n) = omega (arith, sum-most f n, NatL.div-add-mod' (f n) 64, NatL.mod-lt (f n) (let z : 0 < 64 = omega arith in z), NatL.add-mul (sumBelow (λ k. f k / 64) n) (f n / 64) 64)
-
-neither-above : (a b : ℕ) → bitOr a b ≡ 0 → (above a ≡ false) × (above b ≡ false)
-neither-above a b h = neither (above a) (above b) (sym (above-or a b) ∙ rw h (le-ltb 0 0 (omega arith)))
-
--- every sum within its limit, and the rough total, with what it leaves out, within the room
-pub all-good : (counts sums : List ℕ) (room a e t : ℕ) → above a ≡ anyBelow (λ k. ltb (getD counts k 0 * codeable 12) (getD sums k 0)) ENTRIES
-    → t ≡ sumBelow (λ k. getD counts k 0 / 64) ENTRIES → above e ≡ ltb room (t * 64 + 2816) → bitOr a e ≡ 0 → badSums counts sums || ltb room (total counts) ≡ false
-unfolding badSums total
-all-good counts sums room a e t p q r h =
-    let n = neither-above a e h in
-    rw (sym p ∙ n .0, le-ltb room (sumBelow (λ k. getD counts k 0) ENTRIES) (omega (arith, ltb-false room (t * 64 + 2816) (sym r ∙ n .1), q, sum-most (λ k. getD counts k 0) ENTRIES))) refl
+all-tested counts sums room a r t p q e = top-or a r ∙ rw (p, e, q)

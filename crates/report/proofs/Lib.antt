@@ -1,6 +1,3 @@
-pub mod OneClass
-pub mod Notes
 pub mod Above
-pub mod Tally
 pub mod Table
 pub mod History

@@ -2,14 +2,14 @@
 use mathlib.Core.Path.{_≡_, refl, sym}
 use mathlib.Core.Bool.{Bool, true, false, cond, not, _||_}
 use mathlib.Core.List.{List}
-use Prim.Native.Nat.{ℕ, zero, suc, _+_, _-_, _≤_, _<_}
+use Prim.Native.Nat.{ℕ, zero, suc, _+_, _-_, _/_, _%_, _≤_, _<_}
 use native.Mathlib.Decide.{decLt, ℕ-discrete}
 use native.Mathlib.Nat as NatL
 use native.Mathlib.Omega.{arith}
 use borrow.Author.Tests.{ltb-false, eqb-true, eq-eqb, ne-eqb, not-false}
 use lib.Dec.{eqb}
 use lib.IntN.{ℤ}
-use lib.ListN.{length}
+use lib.ListN.{length, getD}
 use Rattle.whole.proofs.Lists.{tabulate-is}
 use Rattle.answers.specs.Limits.{codeable}
 use Rattle.answers.specs.Sizes.{side, area}
@@ -22,8 +22,11 @@ use Rattle.plane.specs.Plane.{inside, planeAfter}
 use Rattle.plane.proofs.Row.{inside-low, inside-high}
 use Rattle.plane.proofs.Block.{off-columns}
 use Rattle.reconstruct.specs.Reconstruct as R
+use Rattle.tally.specs.Classes.{shares}
+use Rattle.tally.specs.Inner.{Noted, Taken}
+use Rattle.tally.proofs.OneClass.{shares-none}
 use Rattle.report.specs.Report.{Input, badTotal, badSums, reportAnswer, answerOf, listAfter, samplesAfter, noted}
-use Rattle.report.specs.Inner.{Taken, orFifteen}
+use Rattle.report.specs.Inner.{orFifteen}
 
 -- ---- what reconstruction's answer 0 says of the tokens
 pub record Good (u : R.Input) : Type 0 where
@@ -163,3 +166,15 @@ fifteen a e = rw (eq-eqb a 0 e)
 
 pub no-fifteen : (a : ℕ) → (a ≡ 0 → ⊥) → a ≡ orFifteen a
 no-fifteen a ne = rw (ne-eqb a 0 ne)
+
+-- a list after all tokens of a block
+pub note-all : (f : ℕ → ℕ) (size : ℕ) (tokens : List ℤ) (n : ℕ) (a b : List ℕ) → Noted f size 0 n tokens a b → b ≡ noted f size n tokens a
+unfolding noted
+note-all f size tokens n a b p =
+    tabulate-is 0 (λ k. getD a k 0 + cond (eqb (k / 11) size) (shares f (k % 11) n tokens) 0) b (length a) (p .note .as-long)
+    (λ k h. plain k (eqb (k / 11) size) (p .note .grown k h))
+  where
+    plain : (k : ℕ) (x : Bool) → getD b k 0 + cond x (shares f (k % 11) 0 tokens) 0 ≡ getD a k 0 + cond x (shares f (k % 11) n tokens) 0
+        → getD b k 0 ≡ getD a k 0 + cond x (shares f (k % 11) n tokens) 0
+    plain k true e = omega (arith, shares-none f (k % 11) tokens, e)
+    plain k false e = omega (arith, e)

@@ -1,4 +1,3 @@
-pub mod Classes
 pub mod Report
 pub mod History
 pub mod Inner

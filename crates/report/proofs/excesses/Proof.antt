@@ -7,14 +7,14 @@ use lib.ListN.{getD}
 use Rattle.whole.specs.Tests.{anyBelow}
 use Rattle.whole.proofs.Tests.{any-none}
 use Rattle.answers.specs.Limits.{codeable}
-use Rattle.report.specs.Classes.{sumBelow}
-use Rattle.report.specs.Inner.{above}
-use Rattle.report.proofs.Above.{above-or, any-or, sum-none, sum-more, all-tested}
+use Rattle.tally.specs.Classes.{sumBelow}
+use Rattle.report.specs.Inner.{top}
+use Rattle.report.proofs.Above.{top-or, any-or, sum-none, sum-more, all-tested}
 use Rattle.report.proofs.excesses.Statement.{statement}
 use Rattle.report.proofs.excesses.Tie as tie
 
 abbrev Inv-loop : tie.InvT-loop
-Inv-loop counts sums room total₀ all₀ k₀ total all k = (k ≤ 44) × (total ≤ k * 4294967295) × (total ≡ sumBelow (λ j. getD counts j 0) k) × (above all ≡ anyBelow (λ j. ltb (getD counts j 0 * codeable 12) (getD sums j 0)) k)
+Inv-loop counts sums room total₀ all₀ k₀ total all k = (k ≤ 44) × (total ≤ k * 4294967295) × (total ≡ sumBelow (λ j. getD counts j 0) k) × (top all ≡ anyBelow (λ j. ltb (getD counts j 0 * codeable 12) (getD sums j 0)) k)
 
 abbrev μ-loop : tie.MeasureT-loop
 μ-loop counts sums room total₀ all₀ k₀ total all k = 44 - k
@@ -37,7 +37,7 @@ loop-again c =
     let l = c .before .before .before .before .before in
     let a = l .before .args in
     let w = c .before .before .wide32 in
-    (omega arith, omega (arith, few (c .before .before), l .loop .inv .1), rw (w .ensures .0) (sum-more (λ j. getD (a .counts .now) j 0) (l .loop .k) (l .loop .inv .2)), above-or (l .loop .all) (c .excess .result) ∙ any-or _ (l .loop .k) (l .loop .inv .3) (rw (w .ensures .0) at (c .excess .ensures)))
+    (omega arith, omega (arith, few (c .before .before), l .loop .inv .1), rw (w .ensures .0) (sum-more (λ j. getD (a .counts .now) j 0) (l .loop .k) (l .loop .inv .2)), top-or (l .loop .all) (c .excess .result) ∙ any-or _ (l .loop .k) (l .loop .inv .3) (rw (w .ensures .0) at (c .excess .ensures)))
 
 returns : tie.Need-returns Inv-loop μ-loop
 returns c =

@@ -7,11 +7,12 @@ use native.Mathlib.Omega.{arith}
 use borrow.Author.Needs.{needs}
 use lib.ListN.{length}
 use Rattle.reconstruct.specs.Reconstruct as R
-use Rattle.report.specs.Classes.{one, itself}
+use Rattle.tally.specs.Classes.{one, itself}
 use Rattle.report.specs.Report.{Input, answerOf, badTotal, badSums, Reported}
-use Rattle.report.specs.Inner.{Noted, Room, orFifteen}
-use Rattle.report.proofs.Notes.{note-all, area-ends}
-use Rattle.report.proofs.Table.{Good, good, passes, fails, samples-stay, list-stays, same-samples, list-done, not-zero, corner-answer}
+use Rattle.tally.specs.Inner.{Noted, Room}
+use Rattle.report.specs.Inner.{orFifteen}
+use Rattle.tally.proofs.Notes.{area-ends}
+use Rattle.report.proofs.Table.{note-all, Good, good, passes, fails, samples-stay, list-stays, same-samples, list-done, not-zero, corner-answer}
 use Rattle.report.proofs.Above.{room}
 use Rattle.report.proofs.reconstruct_block_report.Statement.{statement}
 use Rattle.report.proofs.reconstruct_block_report.Tie as tie

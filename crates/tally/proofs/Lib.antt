@@ -1,0 +1,3 @@
+pub mod OneClass
+pub mod Notes
+pub mod Digit
