@@ -129,7 +129,8 @@ fn driven(block: &mut [i64], key: u64, size: u32, digest: u64) -> u64 {
     let driven = idct::inverse_transform_2d_rows(block, exponent(size), tx_type, lossless);
     let answer = driven.answer;
     let d = draws::feed(digest, answers::code(answer) as u64);
-    draws::feed_list(draws::feed(d, driven.rows as u64), block)
+    let count = driven.rows;
+    draws::feed_list(draws::feed(d, count.number() as u64), block)
 }
 
 pub fn inverse_transform_2d_rows(key: u64, digest: u64) -> u64 {

@@ -76,10 +76,10 @@ module _ (u : Counting) {a : Answer} {k : ℕ} {after : _} (d : Rowed (u .input)
   is : r ≡ D.answerOf (u .input)
   is = e ∙ d .answered
 
-  pub counted : r ≡ 0 → Told countingAnswer countingAfter u r (record { block = after; rows = k })
-  counted z =
+  pub counted : {m : ℕ} → m ≡ k → r ≡ 0 → Told countingAnswer countingAfter u r (record { block = after; rows = m })
+  counted s z =
       let t = eq-eqb (D.answerOf (u .input)) 0 (sym is ∙ z) in
-      record { answered = is; written = together _ _ (d .written) (rw t (d .counted)) }
+      record { answered = is; written = together _ _ (d .written) (rw t (s ∙ d .counted)) }
 
   pub not-counted : (r ≡ 0 → ⊥) → Told countingAnswer countingAfter u r (record { block = after; rows = u .room })
   not-counted z =

@@ -74,7 +74,8 @@ pub extern "C" fn bracetwill_inverse_transform_2d_rows(
     if number != 0 {
         return number;
     }
-    *rows = driven.rows;
+    let count = driven.rows;
+    *rows = count.number();
     number
 }
 

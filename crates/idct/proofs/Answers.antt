@@ -19,6 +19,7 @@ use Rattle.blocks.specs.Inner.{FirstWithin, Possible}
 use Rattle.blocks.specs.Inverse.{inverse2d}
 use Rattle.answers.specs.Sizes.{area}
 use Rattle.idct.specs.Driver.{Input, answerOf, blockAfter, Driven}
+use Rattle.idct.specs.Rows.{dcOnly, rowList}
 use Rattle.idct.specs.Inner.{shapeOf, Tried}
 
 never : {A : Type 0} → true ≡ false → A
@@ -68,14 +69,10 @@ possible count n tx-type lossless h =
     )
 
 -- the type is not looked at when lossless
-pub any-type : (n tx-type : ℕ) (s : List ℤ) → inverse2d n 0 true s ≡ inverse2d n tx-type true s
-unfolding inverse2d
-any-type n tx-type s = refl
-
-pub any-tried : (n tx-type : ℕ) (s : List ℤ) {made : Bool} {after : List ℤ} → Tried (record { block = s; n = n; tx-type = 0; lossless = true }) made after
-    → Tried (record { block = s; n = n; tx-type = tx-type; lossless = true }) made after
-unfolding inverse2d
-any-tried n tx-type s h = record { over = h .over; under = h .under; written = h .written; left = h .left }
+pub any-tried : (tx-type : ℕ) (s : List ℤ) {a : Answer} {k : ℕ} {after : List ℤ} → Tried (record { block = s; n = 2; tx-type = 0; lossless = true }) a k after
+    → Tried (record { block = s; n = 2; tx-type = tx-type; lossless = true }) a k after
+unfolding inverse2d rowList dcOnly
+any-tried tx-type s h = record { answered = h .answered; written = h .written; counted = h .counted }
 
 -- ---- the answer from its two parts
 shape : Input → ℕ
@@ -129,18 +126,12 @@ pub under : (u : Input) (after : List ℤ) → anyBeyond COEF_LIMIT (area (u .n)
 under u after h e = record { answered = rw h; written = rw h e }
 
 -- ---- the fast engine: the residual made, or the block left
-pub made : (u : Input) (after : List ℤ) → anyBeyond COEF_LIMIT (area (u .n)) (u .block) ≡ false → after ≡ inverse2d (u .n) (u .tx-type) (u .lossless) (u .block) → Tried u true after
-made u after h e = record { over = λ q. never q; under = λ _. h; written = λ _. e; left = λ q. never q }
+pub made : (u : Input) {k : ℕ} {after : List ℤ} → anyBeyond COEF_LIMIT (area (u .n)) (u .block) ≡ false → after ≡ inverse2d (u .n) (u .tx-type) (u .lossless) (u .block)
+    → k ≡ length (rowList u) → Tried u Done k after
+made u h e c = record { answered = rw h; written = rw h e; counted = rw h c }
 
-pub left : (u : Input) → anyBeyond COEF_LIMIT (area (u .n)) (u .block) ≡ true → Tried u false (u .block)
-left u h = record { over = λ _. h; under = λ q. never (sym q); written = λ q. never (sym q); left = λ _. refl }
-
--- made or left, it is what the drivers promise
-pub driven-made : (u : Input) {b : Bool} {after : List ℤ} → shapeOf (length (u .block)) (u .n) (u .tx-type) (u .lossless) ≡ 0 → b ≡ true → Tried u b after → Driven u Done after
-driven-made u {b} {after} e q t = driven u Done after e (under u after (t .under q) (t .written q))
-
-pub driven-left : (u : Input) {b : Bool} {after : List ℤ} → shapeOf (length (u .block)) (u .n) (u .tx-type) (u .lossless) ≡ 0 → b ≡ false → Tried u b after → Driven u Coefficient after
-driven-left u {b} {after} e q t = rw (t .left q) (driven u Coefficient (u .block) e (over u (t .over q)))
+pub left : (u : Input) {a : Answer} {k : ℕ} → a ≡ Coefficient → k ≡ 0 → anyBeyond COEF_LIMIT (area (u .n)) (u .block) ≡ true → Tried u a k (u .block)
+left u e z h = record { answered = rw (e, h); written = rw h; counted = rw h z }
 
 -- sizes above 4 by 4 are not lossless
 module _ (s : List ℤ) (n tx-type : ℕ) (lossless : Bool) (e : shapeOf (length s) n tx-type lossless ≡ 0) (h : n ≡ 2 → ⊥) where
@@ -157,8 +148,8 @@ module _ (s : List ℤ) (n tx-type : ℕ) (lossless : Bool) (e : shapeOf (length
       more : 2 ≤ n → 3 ≤ n
       more l = omega arith
 
-  pub as-lossy : {b : Bool} {after : List ℤ} → Tried (record { block = s; n = n; tx-type = tx-type; lossless = false }) b after
-      → Tried (record { block = s; n = n; tx-type = tx-type; lossless = lossless }) b after
+  pub as-lossy : {a : Answer} {k : ℕ} {after : List ℤ} → Tried (record { block = s; n = n; tx-type = tx-type; lossless = false }) a k after
+      → Tried (record { block = s; n = n; tx-type = tx-type; lossless = lossless }) a k after
   as-lossy t = rw lossy-is t
 
 -- a block within the limit is within what the transforms take

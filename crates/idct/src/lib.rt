@@ -2,22 +2,20 @@ use answers::Answer;
 pub use blocks::column_dct;
 pub use blocks::rounding_bits;
 pub use blocks::row_dct;
+use row_pass::RowCount;
 ghost use mathlib.Core.Path.{_≡_};
-ghost use Prim.Native.Nat.{_≤_};
 ghost use Rattle.answers.specs.Answers.{number};
-ghost use lib.ListN.{length};
-ghost use Rattle.answers.specs.Sizes.{area};
 ghost use Rattle.idct.specs.Driver.{Driven};
-ghost use Rattle.idct.specs.Rows.{dcOnly, rowList, Rowed};
+ghost use Rattle.idct.specs.Rows.{Rowed};
 ghost use Rattle.idct.specs.Inner.{shapeOf};
 
 // The fast engine: it makes the residual, or leaves the block.
 mod fast;
 
-// The answer of a driver and the number of row transforms.
+// The answer of a driver, and the count of its row transforms, which none but a row pass can make.
 pub struct DrivenRows {
     pub answer: Answer,
-    pub rows: u32,
+    pub rows: RowCount,
 }
 
 // The answer as far as it needs no number of the block, of which there are `count`.
@@ -63,86 +61,50 @@ pub fn inverse_transform_2d_reference(
 }
 
 // The fast engine, 4 by 4: with 2 for n the tests fold.
-fn small(block: &mut [i64], tx_type: u8, lossless: bool) -> Answer
-    ensures { λ r. ⌜ Driven (record { block = now (block .entry); n = 2; tx-type = «tx_type»; lossless = lossless }) r (now (block .exit)) ⌝ }
+fn small(block: &mut [i64], tx_type: u8, lossless: bool) -> DrivenRows
+    ensures { λ r. ⌜ Rowed (record { block = now (block .entry); n = 2; tx-type = «tx_type»; lossless = lossless }) (r .answer) (r .rows .number) (now (block .exit)) ⌝ }
 {
     let answer = shape(block.len(), 2, tx_type, lossless);
     if answers::code(answer) != 0 {
-        return answer;
+        return fast::refused(answer);
     }
-    if fast::try_4(block, tx_type, lossless) {
-        return Answer::Done;
-    }
-    Answer::Coefficient
+    fast::try_4(block, tx_type, lossless)
 }
 
-// The residual of the block, in its place, by the fast engine.
-pub fn inverse_transform_2d(block: &mut [i64], n: u32, tx_type: u8, lossless: bool) -> Answer
-    ensures { λ r. ⌜ Driven (record { block = now (block .entry); n = n; tx-type = «tx_type»; lossless = lossless }) r (now (block .exit)) ⌝ }
+// The fast engine, every size.
+fn drive(block: &mut [i64], n: u32, tx_type: u8, lossless: bool) -> DrivenRows
+    ensures { λ r. ⌜ Rowed (record { block = now (block .entry); n = n; tx-type = «tx_type»; lossless = lossless }) (r .answer) (r .rows .number) (now (block .exit)) ⌝ }
 {
     if n == 2 {
         return small(block, tx_type, lossless);
     }
     let answer = shape(block.len(), n, tx_type, lossless);
     if answers::code(answer) != 0 {
-        return answer;
+        return fast::refused(answer);
     }
-    if fast::try_larger(block, n, tx_type) {
-        return Answer::Done;
-    }
-    Answer::Coefficient
+    fast::try_larger(block, n, tx_type)
 }
 
-// Not lossless, of type 0, and only place 0 is live.
-fn dc_only(block: &[i64], n: u32, tx_type: u8, lossless: bool) -> bool
-    requires { ⌜ (2 ≤ n) × (n ≤ 5) × (area n ≤ length (now block)) ⌝ }
-    ensures { λ r. ⌜ r ≡ dcOnly (record { block = now (block .entry); n = n; tx-type = «tx_type»; lossless = lossless }) ⌝ }
+// The residual of the block, in its place, by the fast engine.
+pub fn inverse_transform_2d(block: &mut [i64], n: u32, tx_type: u8, lossless: bool) -> Answer
+    ensures { λ r. ⌜ Driven (record { block = now (block .entry); n = n; tx-type = «tx_type»; lossless = lossless }) r (now (block .exit)) ⌝ }
 {
-    if lossless {
-        return false;
-    }
-    let n0 = answers::side(n);
-    dc::only_dc(block, n0 * n0, tx_type)
+    let driven = drive(block, n, tx_type, lossless);
+    driven.answer
 }
 
-// How many rows of a block that is taken are transformed: the set bits of its summary, and none where only place 0 is live.
-fn row_transforms(block: &[i64], n: u32, tx_type: u8, lossless: bool) -> u32
-    requires { ⌜ (2 ≤ n) × (n ≤ 5) × (area n ≤ length (now block)) ⌝ }
-    ensures { λ r. ⌜ r ≡ length (rowList (record { block = now (block .entry); n = n; tx-type = «tx_type»; lossless = lossless })) ⌝ }
-{
-    if dc_only(block, n, tx_type, lossless) {
-        return 0;
-    }
-    summary::row_count(summary::scan(block, answers::side(n)))
-}
-
-// The same, and the number of row transforms, which is 0 under a refusal. It does not call the driver: with one caller that is inlined, for speed.
+// The same, and how many rows were transformed: none under a refusal. It does not call `drive`: with one caller that is inlined, for speed.
 pub fn inverse_transform_2d_rows(
     block: &mut [i64],
     n: u32,
     tx_type: u8,
     lossless: bool,
 ) -> DrivenRows
-    ensures { λ r. ⌜ Rowed (record { block = now (block .entry); n = n; tx-type = «tx_type»; lossless = lossless }) (r .answer) (r .rows) (now (block .exit)) ⌝ }
+    ensures { λ r. ⌜ Rowed (record { block = now (block .entry); n = n; tx-type = «tx_type»; lossless = lossless }) (r .answer) (r .rows .number) (now (block .exit)) ⌝ }
 {
     let answer = shape(block.len(), n, tx_type, lossless);
     if answers::code(answer) != 0 {
-        return DrivenRows {
-            answer: answer,
-            rows: 0,
-        };
+        return fast::refused(answer);
     }
-    let count = answers::area(n);
-    if !dc::within(block, count) {
-        return DrivenRows {
-            answer: Answer::Coefficient,
-            rows: 0,
-        };
-    }
-    let rows = row_transforms(block, n, tx_type, lossless);
-    fast::residual(block, n, tx_type, lossless);
-    DrivenRows {
-        answer: Answer::Done,
-        rows: rows,
-    }
+    fast::try_any(block, n, tx_type, lossless)
 }

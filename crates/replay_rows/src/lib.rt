@@ -97,6 +97,7 @@ pub fn inverse_transform_2d_rows(line: &[u8], at: usize, numbers: &mut [i64]) ->
     );
     let answer = driven.answer;
     let rows = lines::same_unsigned(line, l.next, answers::code(answer) as u64);
-    let next = lines::same_unsigned(line, rows, driven.rows as u64);
+    let made = driven.rows;
+    let next = lines::same_unsigned(line, rows, made.number() as u64);
     lines::same_lent(line, next, lossless.next, &numbers[0..count])
 }

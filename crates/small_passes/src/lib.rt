@@ -1,40 +1,14 @@
 // Rows and columns of 4 by 4: the numbers are literals, so that the loops unroll.
+use row_pass::RowCount;
 ghost use mathlib.Core.Path.{_≡_};
 ghost use mathlib.Core.Bool.{true, false};
 ghost use Prim.Native.Nat.{_^_, _≤_};
 ghost use lib.ListN.{length};
 ghost use Rattle.whole.specs.Round.{Round2};
-ghost use Rattle.whole.specs.Steps.{run};
-ghost use Rattle.blocks.specs.Block.{rows, changeRow, columns, live};
-ghost use Rattle.blocks.specs.Inner.{FirstWithin, Safe};
+ghost use Rattle.blocks.specs.Block.{rows, columns};
+ghost use Rattle.blocks.specs.Inner.{FirstWithin};
 ghost use Rattle.blocks.specs.Inverse.{Wht, apply, lossy, inverse2d};
-ghost use Rattle.summary.specs.Summary.{those, isSet, liveRows};
-
-fn line2(t: &mut [i64; 32], use_dct: bool)
-    requires { ⌜ Safe (lossy «use_dct») 2 (now t) ⌝ }
-    ensures { λ _. ⌜ now (t .exit) ≡ apply (lossy «use_dct») 2 (now (t .entry)) ⌝ }
-{
-    if use_dct {
-        flat_dct::idct_fast2(t);
-    } else {
-        flat_adst::iadst_fast4(t);
-    }
-}
-
-// The rows whose bit is set, and no other, whatever the summary is of.
-fn rows2(block: &mut [i64], summary: u32, use_dct: bool)
-    requires { ⌜ (16 ≤ length (now block)) × FirstWithin (2 ^ 31) 16 (now block) ⌝ }
-    ensures { λ _. ⌜ now (block .exit) ≡ run (changeRow (apply (lossy «use_dct») 2) 4) (those (isSet summary) 4) (now (block .entry)) ⌝ }
-{
-    let mut t = [0i64; 32];
-    for i in 0..4usize {
-        if summary::is_set(summary, i) {
-            blocks::load(&mut t, block, i * 4, 1, 4);
-            line2(&mut t, use_dct);
-            blocks::store(block, &t, i * 4, 1, 4);
-        }
-    }
-}
+ghost use Rattle.row_pass.specs.Inner.{Made, MadeOrFilled};
 
 fn columns2(block: &mut [i64], use_dct: bool)
     requires { ⌜ (16 ≤ length (now block)) × FirstWithin (2 ^ 37) 16 (now block) ⌝ }
@@ -43,22 +17,8 @@ fn columns2(block: &mut [i64], use_dct: bool)
     let mut t = [0i64; 32];
     for j in 0..4usize {
         blocks::load(&mut t, block, j, 4, 4);
-        line2(&mut t, use_dct);
+        row_pass::line2(&mut t, use_dct);
         blocks::store_rounded(block, &t, j, 4, 4, 4);
-    }
-}
-
-fn wht_rows(block: &mut [i64], summary: u32)
-    requires { ⌜ (16 ≤ length (now block)) × FirstWithin (2 ^ 31) 16 (now block) ⌝ }
-    ensures { λ _. ⌜ now (block .exit) ≡ run (changeRow (apply (Wht 2) 2) 4) (those (isSet summary) 4) (now (block .entry)) ⌝ }
-{
-    let mut t = [0i64; 32];
-    for i in 0..4usize {
-        if summary::is_set(summary, i) {
-            blocks::load(&mut t, block, i * 4, 1, 4);
-            wht::inverse_wht(&mut t, 2);
-            blocks::store(block, &t, i * 4, 1, 4);
-        }
     }
 }
 
@@ -74,39 +34,14 @@ fn wht_columns(block: &mut [i64])
     }
 }
 
-// Row 0 of a block whose other rows are dead, by itself: straight, for speed.
-fn wht_first_row(block: &mut [i64])
-    requires { ⌜ (16 ≤ length (now block)) × FirstWithin (2 ^ 31) 16 (now block) × (live 4 12 (now block) ≡ false) ⌝ }
-    ensures { λ _. ⌜ now (block .exit) ≡ run (changeRow (apply (Wht 2) 2) 4) (liveRows 4 (now (block .entry))) (now (block .entry)) ⌝ }
-{
-    if !blocks::any_live(block, 0, 4) {
-        return;
-    }
-    let mut t = [0i64; 32];
-    blocks::load(&mut t, block, 0, 1, 4);
-    wht::inverse_wht(&mut t, 2);
-    blocks::store(block, &t, 0, 1, 4);
-}
-
-// The rows that are live, and no other.
-fn wht_live_rows(block: &mut [i64])
+// Rows, then columns; the rows by the block's summary, and how many they were.
+pub fn wht_by_summary(block: &mut [i64]) -> RowCount
     requires { ⌜ (16 ≤ length (now block)) × FirstWithin (2 ^ 31) 16 (now block) ⌝ }
-    ensures { λ _. ⌜ now (block .exit) ≡ run (changeRow (apply (Wht 2) 2) 4) (liveRows 4 (now (block .entry))) (now (block .entry)) ⌝ }
+    ensures { λ r. ⌜ Made 2 0 true (now (block .entry)) (now (block .exit)) (r .number) ⌝ }
 {
-    if !blocks::any_live(block, 4, 12) {
-        wht_first_row(block);
-        return;
-    }
-    wht_rows(block, summary::scan(block, 4));
-}
-
-// Rows, then columns.
-pub fn wht_by_summary(block: &mut [i64])
-    requires { ⌜ (16 ≤ length (now block)) × FirstWithin (2 ^ 31) 16 (now block) ⌝ }
-    ensures { λ _. ⌜ now (block .exit) ≡ inverse2d 2 0 true (now (block .entry)) ⌝ }
-{
-    wht_live_rows(block);
+    let count = row_pass::wht_rows(block, summary::scan(block, 4));
     wht_columns(block);
+    count
 }
 
 // All four rows with no test: the quickest where no number of rows is told.
@@ -139,7 +74,7 @@ fn all_rows2(block: &mut [i64], use_dct: bool)
     let mut t = [0i64; 32];
     for i in 0..4usize {
         blocks::load(&mut t, block, i * 4, 1, 4);
-        line2(&mut t, use_dct);
+        row_pass::line2(&mut t, use_dct);
         blocks::store(block, &t, i * 4, 1, 4);
     }
 }
@@ -152,7 +87,7 @@ fn all_columns2(block: &mut [i64], use_dct: bool)
     let mut t = [0i64; 32];
     for j in 0..4usize {
         blocks::load(&mut t, block, j, 4, 4);
-        line2(&mut t, use_dct);
+        row_pass::line2(&mut t, use_dct);
         blocks::store_rounded(block, &t, j, 4, 4, 4);
     }
 }
@@ -166,24 +101,24 @@ pub fn lossy_passes(block: &mut [i64], tx_type: u8)
     all_columns2(block, blocks::column_dct(tx_type));
 }
 
-fn passes2(block: &mut [i64], tx_type: u8)
+// As `wht_by_summary`, of a block that is not lossless.
+fn lossy_by_summary(block: &mut [i64], tx_type: u8) -> RowCount
     requires { ⌜ (16 ≤ length (now block)) × FirstWithin (2 ^ 31) 16 (now block) ⌝ }
-    ensures { λ _. ⌜ now (block .exit) ≡ inverse2d 2 «tx_type» false (now (block .entry)) ⌝ }
+    ensures { λ r. ⌜ Made 2 «tx_type» false (now (block .entry)) (now (block .exit)) (r .number) ⌝ }
 {
-    rows2(block, summary::scan(block, 4), blocks::row_dct(tx_type));
+    let count = row_pass::rows2(block, summary::scan(block, 4), blocks::row_dct(tx_type));
     columns2(block, blocks::column_dct(tx_type));
+    count
 }
 
-// The residual of a 4 by 4 block whose numbers are known to be in range, not lossless.
-pub fn inverse4(block: &mut [i64], tx_type: u8)
+// The residual of a block that is not lossless; where only place 0 is live and the type is 0, by one number and no row.
+pub fn inverse4(block: &mut [i64], tx_type: u8) -> RowCount
     requires { ⌜ (16 ≤ length (now block)) × FirstWithin (2 ^ 31) 16 (now block) ⌝ }
-    ensures { λ _. ⌜ now (block .exit) ≡ inverse2d 2 «tx_type» false (now (block .entry)) ⌝ }
+    ensures { λ r. ⌜ MadeOrFilled 2 «tx_type» (now (block .entry)) (now (block .exit)) (r .number) ⌝ }
 {
-    if tx_type == 0 {
-        if !blocks::any_live_first(block, 1, 15) {
-            dc::dc_fill(block, 2, 16);
-            return;
-        }
+    if dc::only_dc(block, 16, tx_type) {
+        dc::dc_fill(block, 2, 16);
+        return row_pass::no_rows();
     }
-    passes2(block, tx_type);
+    lossy_by_summary(block, tx_type)
 }

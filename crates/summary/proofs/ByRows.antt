@@ -1,4 +1,4 @@
--- The row pass over the rows whose bit is set: a loop over them turn by turn, and that the rows of a block's own summary are all that there are to do.
+-- The row pass over the rows that are live: they are all that there are to do.
 use mathlib.Core.Path.{_≡_, refl, sym, ap, _∙_, subst}
 use mathlib.Core.Bool.{Bool, true, false}
 use mathlib.Core.List.{List, [], _∷_, _++_}
@@ -25,79 +25,6 @@ use Rattle.blocks.proofs.Inverse.{side-most}
 use Rattle.blocks.proofs.Turns.{Job}
 use Rattle.summary.specs.Summary.{those, isSet, liveRows, summaryOf}
 use Rattle.summary.proofs.Rows.{those-yes, those-no, scanned-below}
-
--- ---- the invariant: of the rows below i those that have q are done, the rows from i on are as they were; T is 32 long, and zeros past the line
-pub record RowTurn (p : Pass) (n n0 : ℕ) (q : ℕ → Bool) (s₀ : List ℤ) (s t : List ℤ) (i : ℕ) : Type 0 where
-  pub count : i ≤ n0
-  pub done : s ≡ run (changeRow (apply p n) n0) (those q i) s₀
-  pub long : length s ≡ length s₀
-  pub come : (k : ℕ) → i ≤ k → k < n0 → (j : ℕ) → j < n0 → getD s (k * n0 + j) (pos 0) ≡ getD s₀ (k * n0 + j) (pos 0)
-  pub wide : length t ≡ 32
-  pub clean : (k : ℕ) → n0 ≤ k → getD t k (pos 0) ≡ pos 0
-
-pub row-none : (p : Pass) (n n0 : ℕ) (q : ℕ → Bool) (s₀ : List ℤ) → RowTurn p n n0 q s₀ s₀ (replicate 32 (pos 0)) 0
-unfolding those
-row-none p n n0 q s₀ =
-    record {
-      count = omega arith;
-      done = each-none (changeRow (apply p n) n0) (λ i. when (q i) (i ∷ [])) s₀;
-      long = refl;
-      come = λ k _ _ j _. refl;
-      wide = refl;
-      clean = λ k _. zeros-at 32 k;
-    }
-
-module _ {p : Pass} {n n0 : ℕ} {q : ℕ → Bool} {s₀ g : List ℤ} (job : Job p n n0 (λ z. z) (λ i. i * n0) 1 s₀ g) (room : n0 * n0 ≤ length s₀)
-    {s t : List ℤ} {i : ℕ} (turn : RowTurn p n n0 q s₀ s t i) (hi : i < n0) where
-  -- T as it is loaded
-  loaded : {u : List ℤ} → u ≡ fill n0 (λ k. getD s (i * n0 + k * 1) (pos 0)) t → u ≡ row n0 i s
-  loaded {u} e = e ∙ fill-line (i * n0) 1 n0 s t (job .short) (turn .wide) (turn .clean)
-
-  as-was : row n0 i s ≡ row n0 i s₀
-  as-was = line-same (i * n0) 1 n0 s s₀ (λ k hk. rw (mul-one k) (turn .come i (omega arith) hi k hk))
-
-  pub row-safe : {u : List ℤ} → u ≡ fill n0 (λ k. getD s (i * n0 + k * 1) (pos 0)) t → Safe p n u
-  row-safe {u} e = subst (Safe p n) (sym (loaded e ∙ as-was)) (job .safe i hi)
-
-  -- the bit is set: the row is transformed
-  pub row-next : q i ≡ true → {u w v : List ℤ} → u ≡ fill n0 (λ k. getD s (i * n0 + k * 1) (pos 0)) t → w ≡ apply p n u → v ≡ setLine (λ z. z) (i * n0) 1 n0 w s
-      → RowTurn p n n0 q s₀ v w (i + 1)
-  unfolding changeLine those run
-  row-next set {u} {w} {v} e f h =
-      let made : v ≡ changeLine (apply p n) (λ z. z) (i * n0) 1 n0 s =
-      h ∙ ap (λ (x : List ℤ). setLine (λ z. z) (i * n0) 1 n0 x s) (f ∙ ap (apply p n) (loaded e)) in
-      let stay : Stays n0 u w = rw f (job .stays u) in
-      let same : length s ≡ length s₀ = turn .long in
-      record {
-        count = omega arith;
-        done = each-more (changeRow (apply p n) n0) (λ i. when (q i) (i ∷ [])) i s₀ (turn .done)
-            (made ∙ changeRow-line (apply p n) n0 i s (job .short) (rw same room) hi ∙ run-when (changeRow (apply p n) n0) (i ∷ []) s set);
-        long = ap length h ∙ setLine-length (λ z. z) (i * n0) 1 n0 w s ∙ turn .long;
-        come = λ k l hk j hj. rw made
-            (changeLine-other (apply p n) (λ z. z) (i * n0) 1 n0 s (k * n0 + j)
-            (λ m hm w. let z : k ≡ i = rows-apart n0 k i j m hk hi hj hm (rw (mul-one j) w) .0 in omega arith)
-            ∙ turn .come k (omega arith) hk j hj);
-        wide = stay .long ∙ ap length (loaded e) ∙ line-length (i * n0) 1 n0 s;
-        clean = λ k l. stay .same k l ∙ ap (λ (x : List ℤ). getD x k (pos 0)) (loaded e) ∙ line-past (i * n0) 1 n0 s k l;
-      }
-
-  -- it is not: nothing is done
-  pub row-skip : q i ≡ false → RowTurn p n n0 q s₀ s t (i + 1)
-  unfolding those
-  row-skip clear =
-      record {
-        count = omega arith;
-        done = each-more (changeRow (apply p n) n0) (λ i. when (q i) (i ∷ [])) i s₀ (turn .done) (run-skip (changeRow (apply p n) n0) (i ∷ []) s clear);
-        long = turn .long;
-        come = λ k l hk j hj. turn .come k (omega arith) hk j hj;
-        wide = turn .wide;
-        clean = turn .clean;
-      }
-
--- at the end
-pub row-done : {p : Pass} {n n0 : ℕ} {q : ℕ → Bool} {s₀ s t : List ℤ} {i : ℕ} → RowTurn p n n0 q s₀ s t i → n0 ≤ i → s ≡ run (changeRow (apply p n) n0) (those q n0) s₀
-row-done {p} {n} {n0} {q} {s₀} {s} {t} {i} turn l =
-    turn .done ∙ ap (λ (k : ℕ). run (changeRow (apply p n) n0) (those q k) s₀) (le-antisymm (turn .count) l)
 
 -- ---- OVER LIVE: where T keeps zeros, the rows that are live are all rows
 module _ (T : List ℤ → List ℤ) (n0 : ℕ) (s : List ℤ) (short : n0 ≤ 32) (room : n0 * n0 ≤ length s) (zeros : (t : List ℤ) → Zeros n0 t → T t ≡ t) where
@@ -164,13 +91,3 @@ module _ (T : List ℤ → List ℤ) (n0 : ℕ) (s : List ℤ) (short : n0 ≤ 3
       block-ext n0 u (rows T n0 s) (h .long ∙ sym (rows-length T n0 s))
       (λ i j hi hj. h .through i j hi hi hj ∙ sym (rows-at T n0 s room i j hi hj))
       (λ p l. h .past p l ∙ sym (rows-past T n0 s p l))
-
-  -- by the block's own summary
-  pub own-rows : {m : ℕ} {u : List ℤ} → m ≡ summaryOf n0 s → u ≡ run (changeRow T n0) (those (isSet m) n0) s → u ≡ rows T n0 s
-  own-rows {m} {u} e f =
-      f ∙ ap (λ (x : ℕ). run (changeRow T n0) (those (isSet x) n0) s) e ∙ ap (λ (l : List ℕ). run (changeRow T n0) l s) (scanned-below n0 s) ∙ over-live
-
--- of a pass: by the block's own summary all rows are done
-pub own-pass : (p : Pass) (n : ℕ) → 2 ≤ n → n ≤ 5 → Valid 2 p n → (s : List ℤ) → 2 ^ n * 2 ^ n ≤ length s → {m : ℕ} {u : List ℤ} → m ≡ summaryOf (2 ^ n) s
-    → u ≡ run (changeRow (apply p n) (2 ^ n)) (those (isSet m) (2 ^ n)) s → u ≡ rows (apply p n) (2 ^ n) s
-own-pass p n l h v s room e f = own-rows (apply p n) (2 ^ n) s (side-most n l h) room (λ t z. pass-zeros 2 p n v z) e f

@@ -3,7 +3,8 @@ use borrow.Author.Needs.{needs}
 use lib.ListN.{length}
 use Rattle.idct.specs.Driver.{Input}
 use Rattle.idct.specs.Inner.{shapeOf}
-use Rattle.idct.proofs.Answers.{possible, refused, driven-made, driven-left}
+use Rattle.idct.proofs.Answers.{possible}
+use Rattle.idct.proofs.Counted.{rowed-refused, rowed}
 use Rattle.idct.proofs.small.Statement.{statement}
 use Rattle.idct.proofs.small.Tie as tie
 
@@ -16,7 +17,9 @@ passed : (c : tie.Else1) → let u = given (c .before .before .before) in shapeO
 passed c = sym (c .before .code .ensures ∙ c .before .before .shape .ensures) ∙ c .if1 .left
 
 returns : tie.Need-returns
-returns c = refused (given (c .before .before .before)) _ (c .before .before .shape .ensures) (λ z. c .if1 .taken (c .before .code .ensures ∙ z))
+returns c =
+    let w = c .before in
+    rowed-refused (given (w .before .before .before)) _ (w .before .before .shape .ensures) (λ z. w .if1 .taken (w .before .code .ensures ∙ z)) (c .refused .ensures .0) (c .refused .ensures .1)
 
 try-4-requires : tie.Need-try-4-requires
 try-4-requires c κs =
@@ -24,14 +27,9 @@ try-4-requires c κs =
     possible (length (u .block)) (u .n) (u .tx-type) (u .lossless) (passed (c .before)) .1
 
 returns-2 : tie.Need-returns-2
-returns-2 c = let e = c .before .before .before .before in driven-made (given (e .before .before .before)) (passed e) (c .if2 .taken) (c .before .before .try-4 .ensures)
-
-returns-3 : tie.Need-returns-3
-returns-3 c =
-    let e = c .before .before .before .before in
-    driven-left (given (e .before .before .before)) (passed e) (c .if2 .left) (c .before .before .try-4 .ensures)
+returns-2 c = let e = c .before .before .before in rowed (given (e .before .before .before)) (passed e) (c .before .try-4 .ensures)
 
 pub small-spec : {M : Type 1} → statement M
 small-spec =
     tie.close
-    (tie.spec (λ c κs. search needs) (λ c κs. search needs) returns try-4-requires (λ c. search needs) returns-2 (λ c. search needs) returns-3)
+    (tie.spec (λ c κs. search needs) (λ c κs. search needs) (λ c κs. search needs) returns try-4-requires (λ c. search needs) returns-2)

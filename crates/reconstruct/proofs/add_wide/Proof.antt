@@ -41,7 +41,7 @@ module _ (c : tie.After-widen) where
   small k h = within-le (omega arith) (c .widen .ensures .1 k (rw (c .before .area .ensures .0) h))
 
 residuals : (c : tie.After-both-passes) → let s = start (c .before .before) in c .both-passes .last .0 ≡ inverse2d (s .args .size + 2) (s .args .tx-type) false (block s)
-residuals c = rw (coefs (c .before .before)) at (c .both-passes .ensures)
+residuals c = rw (coefs (c .before .before)) at (c .both-passes .ensures .written)
 
 count : tie.Need-slice-aggregate-both-passes
 count c = let s = start (c .before) in rw (coefs (c .before)) (sym (front-length (s .args .size) (each s) (size-most s)))

@@ -28,7 +28,7 @@ coefs c =
 -- and after the transform
 residuals : (c : tie.After-both-passes) → let a = c .before .before .before .before .before .args in
     c .both-passes .last .0 ≡ inverse2d (a .size + 2) (a .tx-type) false (inFront (area (a .size + 2)) (a .size) (a .dc-quant) (a .ac-quant) (a .tokens .now))
-residuals c = rw (coefs (c .before .before)) at (c .both-passes .ensures)
+residuals c = rw (coefs (c .before .before)) at (c .both-passes .ensures .written)
 
 dequantize-requires : tie.Need-dequantize-requires
 dequantize-requires c κs =

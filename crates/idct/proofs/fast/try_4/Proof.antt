@@ -7,7 +7,7 @@ returns : tie.Need-returns
 returns c =
     let m = c .before .before .before in
     let s = m .before in
-    rw (m .if1 .taken) (any-tried 2 (s .args .tx-type) (s .args .block .now) (c .before .try-wht4 .ensures))
+    rw (m .if1 .taken) (any-tried (s .args .tx-type) (s .args .block .now) (c .before .try-wht4 .ensures))
 
 returns-2 : tie.Need-returns-2
 returns-2 c = let m = c .before .before .before in rw (m .if1 .left) (c .before .try-lossy4 .ensures)

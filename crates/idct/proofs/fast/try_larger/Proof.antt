@@ -13,7 +13,9 @@ use Rattle.answers.specs.Limits.{COEF_LIMIT}
 use Rattle.answers.specs.Sizes.{area}
 use Rattle.idct.specs.Driver.{Input}
 use Rattle.dc.proofs.Alone.{Alone, alone, area-some, area-more, dc-beyond, dc-written}
+use Rattle.blocks.proofs.Inverse.{side-most}
 use Rattle.idct.proofs.Answers.{made, left, in-range}
+use Rattle.idct.proofs.Counted.{live-counted, none-counted, lossy-dc}
 use Rattle.idct.proofs.fast.try_larger.Statement.{statement}
 use Rattle.idct.proofs.fast.try_larger.Tie as tie
 
@@ -52,14 +54,20 @@ dc-fill-requires c κs =
     rw (b .side .ensures .0)
     (s .pre .1 .least, s .pre .1 .most, area-some (s .args .n), s .pre .2, in-range (area (s .args .n)) (s .args .block .now) (first (e .before) ∙ e .if2 .left) .each 0 (area-some (s .args .n)))
 
+returns : tie.Need-returns
+returns c =
+    let w = c .before in
+    left (given (w .before .before .before .before .before .before .before)) (c .refused .ensures .0) (c .refused .ensures .1) (first (w .before) ∙ w .if2 .taken)
+
 returns-2 : tie.Need-returns-2
 returns-2 c =
-    let e = c .before .before .before in
+    let e = c .before .before .before .before in
     let w = e .before .before .before in
     let b = w .before .before .before in
     let s = b .before in
-    made (given s) _ (first (e .before) ∙ e .if2 .left)
-    (dc-written (s .args .n) (s .args .block .now) (s .pre .1 .least) (s .pre .1 .most) (s .pre .2) (only w .dead) (only w .zero-kind) (rw (b .side .ensures .0) at (c .before .dc-fill .ensures)))
+    made (given s) (first (e .before) ∙ e .if2 .left)
+    (dc-written (s .args .n) (s .args .block .now) (s .pre .1 .least) (s .pre .1 .most) (s .pre .2) (only w .dead) (only w .zero-kind) (rw (b .side .ensures .0) at (c .before .before .dc-fill .ensures)))
+    (none-counted (given s) (lossy-dc (s .args .block .now) (s .args .n) (s .args .tx-type) ∙ rw (b .side .ensures .0) at (sym (w .before .only-dc .ensures) ∙ w .if1 .taken)) (c .no-rows .ensures))
 
 within-requires : tie.Need-within-requires
 within-requires c κs = let b = c .before .before .before .before in rw (b .side .ensures .0) (b .before .pre .2)
@@ -74,6 +82,11 @@ beyond c = not-false _ (sym (tested (c .before)) ∙ not-true _ (c .if3 .taken))
 within : (c : tie.Else3) → let s = c .before .before .before .before .before .before .before in anyBeyond COEF_LIMIT (area (s .args .n)) (s .args .block .now) ≡ false
 within c = not-true _ (sym (tested (c .before)) ∙ not-false _ (c .if3 .left))
 
+returns-3 : tie.Need-returns-3
+returns-3 c =
+    let w = c .before in
+    left (given (w .before .before .before .before .before .before .before)) (c .refused2 .ensures .0) (c .refused2 .ensures .1) (beyond w)
+
 both-passes-requires : tie.Need-both-passes-requires
 both-passes-requires c κs =
     let e = c .before in
@@ -81,7 +94,14 @@ both-passes-requires c κs =
     (s .pre .0, s .pre .1, s .pre .2, in-range (area (s .args .n)) (s .args .block .now) (within e))
 
 returns-4 : tie.Need-returns-4
-returns-4 c = let e = c .before .before .before in made (given (c .before .before .before .before .before .before .before .before .before .before)) _ (within e) (c .before .both-passes .ensures)
+returns-4 c =
+    let e = c .before .before .before in
+    let o = e .before .before .before in
+    let b = o .before .before .before in
+    let s = b .before in
+    let m = c .before .both-passes .ensures in
+    made (given s) (within e) (m .written)
+    (live-counted (given s) (side-most (s .args .n) (s .pre .1 .least) (s .pre .1 .most)) (lossy-dc (s .args .block .now) (s .args .n) (s .args .tx-type) ∙ rw (b .side .ensures .0) at (sym (o .before .only-dc .ensures) ∙ o .if1 .left)) (m .counted))
 
 pub try-larger-spec : {M : Type 1} → statement M
 try-larger-spec =
@@ -92,16 +112,19 @@ try-larger-spec =
     only-dc-requires
     slice-copy-out-is-beyond
     (λ c κs. search needs)
+    (λ c κs. search needs)
     (λ c. search needs)
-    (λ c. left (given (c .before .before .before .before .before .before .before)) (first (c .before) ∙ c .if2 .taken))
+    returns
     (λ c. all-fits (c .before .before .before .before .before .before .before))
     dc-fill-requires
+    (λ c κs. search needs)
     (λ c. search needs)
     returns-2
     (λ c. all-fits (c .before .before .before .before))
     within-requires
+    (λ c κs. search needs)
     (λ c. search needs)
-    (λ c. left (given (c .before .before .before .before .before .before .before)) (beyond c))
+    returns-3
     both-passes-requires
     (λ c. search needs)
     returns-4)

@@ -1,11 +1,13 @@
 use mathlib.Core.Path.{_≡_, sym, _∙_}
 use mathlib.Core.Bool.{true, false}
+use native.Mathlib.Omega.{arith}
 use borrow.Author.Needs.{needs}
 use borrow.Author.Tests.{not-true, not-false}
 use Rattle.answers.specs.Bad.{anyBeyond}
 use Rattle.answers.specs.Limits.{COEF_LIMIT}
 use Rattle.idct.specs.Driver.{Input}
 use Rattle.idct.proofs.Answers.{made, left, in-range}
+use Rattle.idct.proofs.Counted.{lossy-counted}
 use Rattle.idct.proofs.fast.try_lossy4.Statement.{statement}
 use Rattle.idct.proofs.fast.try_lossy4.Tie as tie
 
@@ -19,13 +21,20 @@ beyond c = not-false _ (sym (c .before .within .ensures) ∙ not-true _ (c .if1 
 within : (c : tie.Else1) → anyBeyond COEF_LIMIT 16 (c .before .before .before .args .block .now) ≡ false
 within c = not-true _ (sym (c .before .within .ensures) ∙ not-false _ (c .if1 .left))
 
+returns : tie.Need-returns
+returns c = let w = c .before in left (given (w .before .before .before)) (c .refused .ensures .0) (c .refused .ensures .1) (beyond w)
+
 inverse4-requires : tie.Need-inverse4-requires
 inverse4-requires c κs = let s = c .before .before .before .before in (s .pre, in-range 16 (s .args .block .now) (within (c .before)))
 
 returns-2 : tie.Need-returns-2
-returns-2 c = let e = c .before .before .before in made (given (e .before .before .before)) _ (within e) (c .before .inverse4 .ensures)
+returns-2 c =
+    let e = c .before .before .before in
+    let s = e .before .before .before in
+    let m = c .before .inverse4 .ensures in
+    made (given s) (within e) (m .written) (lossy-counted (s .args .block .now) 2 (s .args .tx-type) (omega arith) (m .counted))
 
 pub try-lossy4-spec : {M : Type 1} → statement M
 try-lossy4-spec =
     tie.close
-    (tie.spec (λ c κs. search needs) (λ c. search needs) (λ c. left (given (c .before .before .before)) (beyond c)) inverse4-requires (λ c. search needs) returns-2)
+    (tie.spec (λ c κs. search needs) (λ c κs. search needs) (λ c. search needs) returns inverse4-requires (λ c. search needs) returns-2)
