@@ -1,7 +1,7 @@
 -- What the call with a report is lent, as one value.
 use mathlib.Core.List.{List}
 use Prim.Native.Nat.{ℕ}
-use Rattle.tally.specs.Classes.{one, itself}
+use Rattle.report.specs.Classes.{one, itself}
 use Rattle.report.specs.Report.{Input, samplesAfter, listAfter}
 
 -- the samples, and the report's two lists

@@ -17,7 +17,7 @@ use Rattle.plane.specs.Plane.{inside, sampleAfter, planeAfter}
 use Rattle.plane.proofs.Row.{inside-low, inside-high}
 use Rattle.plane.proofs.Block.{after-length, after-at, off-columns}
 use Rattle.reconstruct.specs.Reconstruct.{Input, largest, answerOf, residual, added, samplesAfter, Reconstructed}
-use Rattle.tally.specs.Classes.{one, itself}
+use Rattle.report.specs.Classes.{one, itself}
 use Rattle.report.specs.Report as T
 use Rattle.laws.specs.Padding.{Agree, SamePadding, lent, lentReport, Unpadded, UnpaddedReport}
 

@@ -14,10 +14,10 @@ use Rattle.whole.proofs.Lists.{length-tabulate, getD-tabulate}
 use Rattle.answers.specs.Answers.{number}
 use Rattle.answers.specs.Sizes.{area}
 use Rattle.reconstruct.specs.Reconstruct as R
-use Rattle.tally.specs.Classes.{CLASSES, sumBelow, shares, one, itself}
+use Rattle.report.specs.Classes.{CLASSES, sumBelow, shares, one, itself}
 use Rattle.report.specs.Report.{ENTRIES, entry, Input, answerOf, noted, listAfter, Reported}
 use Rattle.report.specs.History.{Call, empty, History, none, next, isDone, blocks, recount, Recounted}
-use Rattle.tally.proofs.OneClass.{sum-plus, sum-same, sum-zero, all-counted}
+use Rattle.report.proofs.OneClass.{sum-plus, sum-same, sum-zero, all-counted}
 use Rattle.report.proofs.Table.{good}
 
 -- size and class of their entry

@@ -1,3 +1,5 @@
+pub mod OneClass
+pub mod Notes
 pub mod Above
 pub mod Table
 pub mod History

@@ -22,11 +22,10 @@ use Rattle.plane.specs.Plane.{inside, planeAfter}
 use Rattle.plane.proofs.Row.{inside-low, inside-high}
 use Rattle.plane.proofs.Block.{off-columns}
 use Rattle.reconstruct.specs.Reconstruct as R
-use Rattle.tally.specs.Classes.{shares}
-use Rattle.tally.specs.Inner.{Noted, Taken}
-use Rattle.tally.proofs.OneClass.{shares-none}
+use Rattle.report.specs.Classes.{shares}
 use Rattle.report.specs.Report.{Input, badTotal, badSums, reportAnswer, answerOf, listAfter, samplesAfter, noted}
-use Rattle.report.specs.Inner.{orFifteen}
+use Rattle.report.specs.Inner.{orFifteen, Noted, Taken}
+use Rattle.report.proofs.OneClass.{shares-none}
 
 -- ---- what reconstruction's answer 0 says of the tokens
 pub record Good (u : R.Input) : Type 0 where
@@ -171,8 +170,8 @@ no-fifteen a ne = rw (ne-eqb a 0 ne)
 pub note-all : (f : ℕ → ℕ) (size : ℕ) (tokens : List ℤ) (n : ℕ) (a b : List ℕ) → Noted f size 0 n tokens a b → b ≡ noted f size n tokens a
 unfolding noted
 note-all f size tokens n a b p =
-    tabulate-is 0 (λ k. getD a k 0 + cond (eqb (k / 11) size) (shares f (k % 11) n tokens) 0) b (length a) (p .note .as-long)
-    (λ k h. plain k (eqb (k / 11) size) (p .note .grown k h))
+    tabulate-is 0 (λ k. getD a k 0 + cond (eqb (k / 11) size) (shares f (k % 11) n tokens) 0) b (length a) (p .as-long)
+    (λ k h. plain k (eqb (k / 11) size) (p .grown k h))
   where
     plain : (k : ℕ) (x : Bool) → getD b k 0 + cond x (shares f (k % 11) 0 tokens) 0 ≡ getD a k 0 + cond x (shares f (k % 11) n tokens) 0
         → getD b k 0 ≡ getD a k 0 + cond x (shares f (k % 11) n tokens) 0

@@ -9,7 +9,7 @@ use Rattle.answers.specs.declared.Answer.{Answer}
 use Rattle.answers.specs.Answers.{number}
 use Rattle.answers.specs.Sizes.{area}
 use Rattle.reconstruct.specs.Reconstruct as R
-use Rattle.tally.specs.Classes.{CLASSES, sumBelow, shares, one, itself}
+use Rattle.report.specs.Classes.{CLASSES, sumBelow, shares, one, itself}
 use Rattle.report.specs.Report.{ENTRIES, entry, Reported}
 
 -- a call as the history has it: the block that it was given, and its answer

@@ -1,3 +1,4 @@
+pub mod Classes
 pub mod Report
 pub mod History
 pub mod Inner

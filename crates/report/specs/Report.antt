@@ -12,7 +12,7 @@ use Rattle.answers.specs.declared.Answer.{Answer}
 use Rattle.answers.specs.Answers.{number, lowest}
 use Rattle.answers.specs.Limits.{codeable}
 use Rattle.reconstruct.specs.Reconstruct as R
-use Rattle.tally.specs.Classes.{CLASSES, sumBelow, shares, one, itself}
+use Rattle.report.specs.Classes.{CLASSES, sumBelow, shares, one, itself}
 
 -- how many entries each list of a report has: size by size, class by class
 abbrev pub ENTRIES : ℕ

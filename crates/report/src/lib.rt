@@ -7,12 +7,14 @@ use quant::AcQuant;
 use quant::DcQuant;
 ghost use mathlib.Core.Path.{_≡_};
 ghost use mathlib.Core.Bool.{_||_};
-ghost use Prim.Native.Nat.{_^_, _≤_, _<_};
-ghost use lib.Dec.{ltb};
+ghost use Prim.Native.Nat.{_^_, _<_};
 ghost use Rattle.answers.specs.Answers.{number};
 ghost use Rattle.reconstruct.specs.Reconstruct.{answerOf};
-ghost use Rattle.report.specs.Report.{TOTAL_LIMIT, total, badTotal, badSums, Reported};
-ghost use Rattle.report.specs.Inner.{top, orFifteen};
+ghost use Rattle.report.specs.Report.{total, badTotal, badSums, Reported};
+ghost use Rattle.report.specs.Inner.{orFifteen};
+
+// The tokens of a block counted in their classes.
+mod count;
 
 // The greatest total of all counts.
 pub const TOTAL_LIMIT: u64 = 4294967295;
@@ -20,38 +22,49 @@ pub const TOTAL_LIMIT: u64 = 4294967295;
 // The greatest magnitude of a token, which is that of depth 12.
 pub const TOKEN_LIMIT: u64 = 262210;
 
-// The top bit is set exactly where the value is past the limit: a difference that wraps has it, and a value so great that it has not has it itself.
-fn excess(limit: u64, value: u64) -> u64
-    requires { ⌜ limit < 2 ^ 63 ⌝ }
-    ensures { λ r. ⌜ top r ≡ ltb limit value ⌝ }
-{
-    std::num::wrapping_sub_u64(limit, value) | value
-}
-
-// The top bit is set exactly where the total of all counts is past `room`, or a sum past its count × 262,210.
-fn excesses(counts: &[u32; 44], sums: &[u64; 44], room: u64) -> u64
-    requires { ⌜ room ≤ TOTAL_LIMIT ⌝ }
-    ensures { λ r. ⌜ top r ≡ badSums (now (counts .entry)) (now (sums .entry)) || ltb room (total (now (counts .entry))) ⌝ }
+// The total of all counts.
+fn total_of(counts: &[u32; 44]) -> u64
+    ensures { λ r. ⌜ (r ≡ total (now (counts .entry))) × (r < 2 ^ 38) ⌝ }
 {
     let mut total = 0u64;
-    let mut all = 0u64;
     for k in 0..44usize {
-        let count = words::wide32(counts[k]);
-        total += count;
-        all = all | excess(count * TOKEN_LIMIT, sums[k]);
+        total += words::wide32(counts[k]);
     }
-    all | excess(room, total)
+    total
+}
+
+// Whether `more` tokens take the total of all counts past its limit.
+fn bad_total(counts: &[u32; 44], more: usize) -> bool
+    ensures { λ r. ⌜ r ≡ badTotal more (now (counts .entry)) ⌝ }
+{
+    let n = more as u64;
+    if TOTAL_LIMIT < n {
+        return true;
+    }
+    TOTAL_LIMIT < total_of(counts) + n
+}
+
+// Whether a sum is above its count × 262,210.
+fn bad_sums(counts: &[u32; 44], sums: &[u64; 44]) -> bool
+    ensures { λ r. ⌜ r ≡ badSums (now (counts .entry)) (now (sums .entry)) ⌝ }
+{
+    let mut bad = false;
+    for k in 0..44usize {
+        if words::wide32(counts[k]) * TOKEN_LIMIT < sums[k] {
+            bad = true;
+        }
+    }
+    bad
 }
 
 // Whether the report is such that no block of `more` tokens can be counted.
 fn bad_report(counts: &[u32; 44], sums: &[u64; 44], more: usize) -> bool
     ensures { λ r. ⌜ r ≡ badTotal more (now (counts .entry)) || badSums (now (counts .entry)) (now (sums .entry)) ⌝ }
 {
-    let n = more as u64;
-    if TOTAL_LIMIT < n {
+    if bad_total(counts, more) {
         return true;
     }
-    9223372036854775808 <= excesses(counts, sums, TOTAL_LIMIT - n)
+    bad_sums(counts, sums)
 }
 
 // The answer of a block whose report is refused. Beside the plane the block has the answer that it has anywhere, and writes nothing.
@@ -118,7 +131,7 @@ pub fn reconstruct_block_report(
             bit_depth,
         );
     }
-    let told = reconstruct::reconstruct_told(
+    let answer = reconstruct::reconstruct_block(
         samples,
         plane,
         x,
@@ -131,14 +144,9 @@ pub fn reconstruct_block_report(
         lossless,
         bit_depth,
     );
-    let answer = told.answer;
     if code(answer) != 0 {
         return answer;
     }
-    if told.alone {
-        tally::count_alone(counts, sums, tx_sz as usize, tokens);
-        return answer;
-    }
-    tally::count_tokens(counts, sums, tx_sz, tokens);
+    count::count_tokens(counts, sums, tx_sz, tokens);
     answer
 }

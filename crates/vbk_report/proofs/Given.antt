@@ -8,7 +8,7 @@ use lib.Dec.{eqb, ltb}
 use lib.IntN.{ℤ, pos}
 use lib.ListN.{length}
 use Rattle.whole.proofs.Lists.{length-tabulate}
-use Rattle.tally.specs.Classes.{one, itself}
+use Rattle.report.specs.Classes.{one, itself}
 use Rattle.report.specs.Report.{Input, answerOf, samplesAfter, noted, listAfter}
 use Rattle.vbk_read.specs.Header.{depthOf, widthOf, heightOf, fieldsOf}
 use Rattle.vbk_read.specs.Records.{sizeAt, losslessAt, headAt, tokensAt, endAnswer, ends}

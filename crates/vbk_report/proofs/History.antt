@@ -14,7 +14,7 @@ use Rattle.answers.specs.Sizes.{area}
 use Rattle.answers.specs.Bad.{badDepth, badSize, badLossless, badTxType, anyBeyond}
 use Rattle.answers.proofs.Numbers.{numbered}
 use Rattle.reconstruct.specs.Reconstruct as R
-use Rattle.tally.specs.Classes.{one, itself}
+use Rattle.report.specs.Classes.{one, itself}
 use Rattle.report.specs.Report.{Input, badTotal, badSums, reportAnswer, answerOf, samplesAfter, listAfter, Reported}
 use Rattle.report.specs.History.{Call, empty, History, none, next, Recounted}
 use Rattle.report.proofs.History.{history-law}

@@ -8,7 +8,7 @@ use native.Mathlib.Omega.{arith}
 use lib.Dec.{ltb, eqb}
 use lib.ListN.{length, getD, drop}
 use Rattle.reconstruct.specs.Reconstruct as R
-use Rattle.tally.specs.Classes.{one, itself}
+use Rattle.report.specs.Classes.{one, itself}
 use Rattle.report.specs.Report.{Input, badTotal, badSums, answerOf, samplesAfter, listAfter}
 use Rattle.report.proofs.Table.{passes, fails, fifteen, no-fifteen, same-samples}
 use Rattle.vbk_read.specs.Header.{planeArea, samplesOf, firstRecord}

@@ -4,7 +4,7 @@ use mathlib.Core.List.{List}
 use Prim.Native.Nat.{ℕ}
 use lib.IntN.{ℤ}
 use lib.ListN.{length}
-use Rattle.tally.specs.Classes.{one, itself}
+use Rattle.report.specs.Classes.{one, itself}
 use Rattle.report.specs.Report.{Input, answerOf, samplesAfter, listAfter}
 use Rattle.vbk_read.specs.Header.{samplesOf, firstRecord}
 use Rattle.vbk.specs.Replay.{Reconstruction, After, records}

@@ -1,16 +1,15 @@
-use mathlib.Core.Path.{_∙_}
-use native.Mathlib.Omega.{arith}
+use mathlib.Core.Path.{_≡_, sym, ap, _∙_}
+use mathlib.Core.Bool.{Bool, _||_}
 use borrow.Author.Needs.{needs}
-use Rattle.report.proofs.Above.{total-past, total-room}
+use Rattle.report.specs.Report.{badSums}
 use Rattle.report.proofs.bad_report.Statement.{statement}
 use Rattle.report.proofs.bad_report.Tie as tie
 
-returns : tie.Need-returns
-returns c = let a = c .before .args in total-past (a .more) (a .counts .now) (a .sums .now) (c .if1 .taken)
-
-returns-2 : tie.Need-returns-2
-returns-2 c =
-    let a = c .before .before .args in c .excesses .ensures ∙ total-room (a .more) (a .counts .now) (a .sums .now) (omega arith)
-
 pub bad-report-spec : {M : Type 1} → statement M
-bad-report-spec = tie.close (tie.spec returns (λ c κs. search needs) returns-2)
+bad-report-spec =
+    tie.close
+    (tie.spec
+    (λ c κs. search needs)
+    (λ c. rw (sym (c .before .bad-total .ensures), c .if1 .taken))
+    (λ c κs. search needs)
+    (λ c. rw (sym (c .before .before .bad-total .ensures), c .before .if1 .left) (c .bad-sums .ensures)))

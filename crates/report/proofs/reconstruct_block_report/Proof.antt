@@ -7,12 +7,10 @@ use native.Mathlib.Omega.{arith}
 use borrow.Author.Needs.{needs}
 use lib.ListN.{length}
 use Rattle.reconstruct.specs.Reconstruct as R
-use Rattle.tally.specs.Classes.{one, itself}
+use Rattle.report.specs.Classes.{one, itself}
 use Rattle.report.specs.Report.{Input, answerOf, badTotal, badSums, Reported}
-use Rattle.tally.specs.Inner.{Noted, Room}
 use Rattle.report.specs.Inner.{orFifteen}
-use Rattle.tally.proofs.Notes.{area-ends}
-use Rattle.report.proofs.Table.{note-all, Good, good, passes, fails, samples-stay, list-stays, same-samples, list-done, not-zero, corner-answer}
+use Rattle.report.proofs.Table.{note-all, good, passes, fails, samples-stay, list-stays, same-samples, list-done, not-zero, corner-answer}
 use Rattle.report.proofs.Above.{room}
 use Rattle.report.proofs.reconstruct_block_report.Statement.{statement}
 use Rattle.report.proofs.reconstruct_block_report.Tie as tie
@@ -63,7 +61,7 @@ returns-2 c =
     let b = c .before .before .before .before in
     let s = b .before .before .before .before .before .before .before in
     let u = input s in
-    let r = b .reconstruct-told .ensures .0 in
+    let r = b .reconstruct-block .ensures in
     let e = passes u (passed (b .before .before)) in
     let ne : answerOf u ≡ 0 → ⊥ = λ z. c .if2 .taken (c .before .code .ensures ∙ r .answered ∙ e ∙ z) in
     record {
@@ -74,57 +72,37 @@ returns-2 c =
     }
 
 -- the block is done
-done : (c : tie.Else2) → R.answerOf (block (c .before .before .before .before .before .before .before .before .before .before .before)) ≡ 0
-done c = sym (c .before .code .ensures ∙ c .before .before .before .before .reconstruct-told .ensures .0 .answered) ∙ c .if2 .left
-
--- and the report has room for it
 module _ (d : tie.Else2) where
-  abbrev told : tie.After-reconstruct-told
-  told = d .before .before .before .before
+  abbrev built : tie.After-reconstruct-block
+  built = d .before .before .before .before
 
   abbrev begun : tie.Start
-  begun = told .before .before .before .before .before .before .before
+  begun = built .before .before .before .before .before .before .before
 
-  fine : Good (block begun)
-  fine = good (block begun) (done d)
-
-  has-room : Room (length (begun .args .tokens .now)) (begun .args .counts .now) (begun .args .sums .now)
-  has-room = room (length (begun .args .tokens .now)) (begun .args .counts .now) (begun .args .sums .now) (passed (told .before .before))
-
-  finished : (counts sums : List ℕ) → Noted one (begun .args .tx-sz) 0 (length (begun .args .tokens .now)) (begun .args .tokens .now) (begun .args .counts .now) counts
-      → Noted itself (begun .args .tx-sz) 0 (length (begun .args .tokens .now)) (begun .args .tokens .now) (begun .args .sums .now) sums
-      → Reported (input begun) (told .reconstruct-told .result .answer) (told .reconstruct-told .last .0) counts sums
-  finished counts sums p q =
-      let u = input begun in
-      let r = told .reconstruct-told .ensures .0 in
-      let e = passes u (passed (told .before .before)) in
-      let z = sym e ∙ done d in
-      record {
-        answered = r .answered ∙ e;
-        written = r .written ∙ same-samples u e;
-        counted = note-all one (begun .args .tx-sz) (begun .args .tokens .now) (length (begun .args .tokens .now)) (u .counts) counts p ∙ list-done u one (u .counts) z;
-        summed = note-all itself (begun .args .tx-sz) (begun .args .tokens .now) (length (begun .args .tokens .now)) (u .sums) sums q ∙ list-done u itself (u .sums) z;
-      }
-
-count-alone-requires : tie.Need-count-alone-requires
-count-alone-requires c κs =
-    let t = c .before .before in
-    let d = t .before in
-    let g = fine d in
-    let h = area-ends (begun d .args .tx-sz) (g .size-ok) in
-    (g .size-ok, rw (g .length-ok) (omega (arith, h .0)), rw (g .length-ok) (h .1), told d .reconstruct-told .ensures .1 (t .if3 .taken), g .taken, has-room d)
-
-returns-3 : tie.Need-returns-3
-returns-3 c = let d = c .before .before .before .before in finished d _ _ (c .count-alone .ensures .0) (c .count-alone .ensures .1)
+  done : R.answerOf (block begun) ≡ 0
+  done = sym (d .before .code .ensures ∙ built .reconstruct-block .ensures .answered) ∙ d .if2 .left
 
 count-tokens-requires : tie.Need-count-tokens-requires
 count-tokens-requires c κs =
-    let d = c .before .before .before in
-    let g = fine d in
-    (g .size-ok, g .length-ok, g .taken, rw (g .length-ok) at (has-room d))
+    let d = c .before .before in
+    let a = begun d .args in
+    let g = good (block (begun d)) (done d) in
+    (g .size-ok, g .length-ok, g .taken, room (length (a .tokens .now)) (a .counts .now) (a .sums .now) (passed (built d .before .before)))
 
-returns-4 : tie.Need-returns-4
-returns-4 c = let d = c .before .before .before .before in finished d _ _ (c .count-tokens .ensures .0) (c .count-tokens .ensures .1)
+returns-3 : tie.Need-returns-3
+returns-3 c =
+    let d = c .before .before .before in
+    let a = begun d .args in
+    let u = input (begun d) in
+    let r = built d .reconstruct-block .ensures in
+    let e = passes u (passed (built d .before .before)) in
+    let z = sym e ∙ done d in
+    record {
+      answered = r .answered ∙ e;
+      written = r .written ∙ same-samples u e;
+      counted = note-all one (a .tx-sz) (a .tokens .now) (length (a .tokens .now)) (u .counts) _ (c .count-tokens .ensures .0) ∙ list-done u one (u .counts) z;
+      summed = note-all itself (a .tx-sz) (a .tokens .now) (length (a .tokens .now)) (u .sums) _ (c .count-tokens .ensures .1) ∙ list-done u itself (u .sums) z;
+    }
 
 pub reconstruct-block-report-spec : {M : Type 1} → statement M
 reconstruct-block-report-spec =
@@ -138,9 +116,6 @@ reconstruct-block-report-spec =
     (λ c κs. search needs)
     (λ c. search needs)
     returns-2
-    count-alone-requires
-    (λ c. search needs)
-    returns-3
     count-tokens-requires
     (λ c. search needs)
-    returns-4)
+    returns-3)

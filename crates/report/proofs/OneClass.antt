@@ -13,14 +13,14 @@ use lib.Dec.{leb, ltb, eqb, leb→le, eqb→eq}
 use lib.IntN.{ℤ, pos, natAbs}
 use lib.ListN.{getD}
 use Rattle.whole.proofs.Tests.{below}
-use Rattle.tally.specs.Classes.{CLASSES, leasts, least, inClass, sumBelow, share, shares, one}
-use Rattle.tally.specs.Inner.{edges, IsClass}
+use Rattle.report.specs.Classes.{CLASSES, leasts, least, inClass, sumBelow, share, shares, one}
+use Rattle.report.specs.Inner.{edges, IsClass}
 
 -- the leasts rise
 rise-one : (c : ℕ) → c < 10 → least c ≤ least (suc c)
 rise-one c h = leb→le (least c) (least (suc c)) (below 10 (λ c. leb (least c) (least (suc c))) tt c h)
 
-pub rise : (c d : ℕ) → c ≤ d → d < 11 → least c ≤ least d
+rise : (c d : ℕ) → c ≤ d → d < 11 → least c ≤ least d
 rise c zero l h = let e : c ≡ 0 = omega arith in NatL.le-of-eq (ap least e)
 rise c (suc d) l h = go (λ q. rise c d q (omega arith)) (NatL.eq-or-lt-of-le l)
   where
@@ -29,11 +29,11 @@ rise c (suc d) l h = go (λ q. rise c d q (omega arith)) (NatL.eq-or-lt-of-le l)
     go f (inr q) = NatL.le-trans (f (omega arith)) (rise-one d (omega arith))
 
 -- a class by its bounds, and the bounds of a class
-pub by-bounds : (c m : ℕ) → c < 10 → least c ≤ m → m < least (suc c) → inClass c m ≡ true
+by-bounds : (c m : ℕ) → c < 10 → least c ≤ m → m < least (suc c) → inClass c m ≡ true
 unfolding inClass
 by-bounds c m h l u = rw (le-leb (least c) m l, ne-eqb c 10 (λ (e : c ≡ 10). absurd (omega arith)), lt-ltb m (least (suc c)) u)
 
-pub last-class : (m : ℕ) → 67 ≤ m → inClass 10 m ≡ true
+last-class : (m : ℕ) → 67 ≤ m → inClass 10 m ≡ true
 unfolding inClass
 last-class m l = rw (le-leb 67 m l)
 
@@ -41,7 +41,7 @@ and-right : (a b : Bool) → a && b ≡ true → b ≡ true
 and-right true b h = h
 and-right false b h = cc
 
-pub from : (c m : ℕ) → inClass c m ≡ true → least c ≤ m
+from : (c m : ℕ) → inClass c m ≡ true → least c ≤ m
 unfolding inClass
 from c m h = go (decLt m (least c))
   where
@@ -49,7 +49,7 @@ from c m h = go (decLt m (least c))
     go (yes l) = absurd (let z : _≡_ {A = ℕ} 0 1 = cc (rw (lt-leb (least c) m l) at h) in omega arith)
     go (no l) = omega arith
 
-pub to : (c m : ℕ) → c < 10 → inClass c m ≡ true → m < least (suc c)
+to : (c m : ℕ) → c < 10 → inClass c m ≡ true → m < least (suc c)
 unfolding inClass
 to c m l h =
     ltb-true m (least (suc c)) (rw (ne-eqb c 10 (λ (e : c ≡ 10). absurd (omega arith))) at (and-right (leb (least c) m) (eqb c 10 || ltb m (least (suc c))) h))
@@ -59,7 +59,7 @@ edge : (c : ℕ) → c < 11 → getD edges c 0 ≡ least c
 edge c h = eqb→eq (getD edges c 0) (least c) (below 11 (λ c. eqb (getD edges c 0) (least c)) tt c h)
 
 -- a class by its edges is one by its bounds
-pub bounds : (m c : ℕ) → IsClass m c → inClass c m ≡ true
+bounds : (m c : ℕ) → IsClass m c → inClass c m ≡ true
 bounds m c i = go (decLt c 10)
   where
     go : Dec (c < 10) → inClass c m ≡ true
@@ -67,7 +67,7 @@ bounds m c i = go (decLt c 10)
     go (no l) = let e : c ≡ 10 = omega (arith, i .known) in rw e (last-class m (rw e at (i .from)))
 
 -- no magnitude is of two classes
-pub one-class : (m c d : ℕ) → IsClass m c → inClass d m ≡ true → d < CLASSES → d ≡ c
+one-class : (m c d : ℕ) → IsClass m c → inClass d m ≡ true → d < CLASSES → d ≡ c
 one-class m c d i h l = go (decLt d c) (decLt c d)
   where
     go : Dec (d < c) → Dec (c < d) → d ≡ c
@@ -97,7 +97,7 @@ share-is f c d t i l = go (ℕ-discrete d c)
     go (yes e) = rw (e, bounds (natAbs t) c i, eq-eqb c c refl)
     go (no ne) = rw (other-class (natAbs t) c d i l ne, ne-eqb d c ne)
 
-pub share-most : (f : ℕ → ℕ) (c b : ℕ) (t : ℤ) → f (natAbs t) ≤ b → share f c t ≤ b
+share-most : (f : ℕ → ℕ) (c b : ℕ) (t : ℤ) → f (natAbs t) ≤ b → share f c t ≤ b
 unfolding share
 share-most f c b t h = go (inClass c (natAbs t))
   where
@@ -157,7 +157,7 @@ upto t zero l = rw (le-leb 0 (natAbs t) (omega arith))
 upto t (suc j) l =
     omega (arith, upto t j (omega arith), step (natAbs t) j (omega arith))
 
-pub all-shares : (t : ℤ) → sumBelow (λ c. share one c t) 11 ≡ 1
+all-shares : (t : ℤ) → sumBelow (λ c. share one c t) 11 ≡ 1
 unfolding sumBelow share reached inClass
 all-shares t = omega (arith, upto t 10 (omega arith), last (leb 67 (natAbs t)))
   where

@@ -1,3 +1,0 @@
-pub mod OneClass
-pub mod Notes
-pub mod Digit
