@@ -1,37 +1,23 @@
 -- What is written is read back: the header, the samples, each record in order, and the end of the reading after the last.
 use mathlib.Core.Path.{_≡_, refl, sym, ap, ap₂, _∙_}
-use mathlib.Core.Bool.{Bool, true, false, not, cond, _&&_}
+use mathlib.Core.Bool.{true, false}
 use mathlib.Core.List.{List, [], _∷_, _++_}
-use Prim.Native.Nat.{ℕ, zero, suc, _+_, _*_, _/_, _%_, _≤_, _<_, _^_}
+use Prim.Native.Nat.{ℕ, zero, suc, _+_, _*_, _/_, _%_, _≤_, _<_}
 use native.Mathlib.Nat as NatL
 use native.Mathlib.Omega.{arith}
-use borrow.Author.Tests.{lt-ltb, le-ltb, eq-eqb}
-use lib.Dec.{ltb, eqb}
-use lib.IntN.{ℤ, pos}
+use borrow.Author.Tests.{lt-ltb, le-ltb}
+use lib.IntN.{pos}
 use lib.ListN.{length, getD, length-append}
-use lib.Signed.{mag}
 use Rattle.whole.proofs.Lists.{tabulate-is}
 use Rattle.answers.specs.Sizes.{area}
-use Rattle.answers.specs.Bad.{badDepth}
 use Rattle.vbk_read.specs.Bytes.{le1, le2, signed32}
-use Rattle.vbk_read.specs.Header.{marked, versionOf, depthOf, widthOf, heightOf, planeArea, sampleAt, samplesOf, firstRecord, badArea, headerAnswer}
-use Rattle.vbk_read.specs.Records.{headAt, sizeAt, losslessAt, tokenAt, tokensAt, nextAt, found, endAnswer, ends, checkAnswer, readOn}
+use Rattle.vbk_read.specs.Header.{marked, versionOf, depthOf, widthOf, heightOf, planeArea, sampleAt, samplesOf, firstRecord, headerAnswer}
+use Rattle.vbk_read.specs.Records.{sizeAt, losslessAt, tokenAt, tokensAt, nextAt, found, endAnswer, ends, checkAnswer, readOn}
 use Rattle.vbk_write.specs.Bytes.{two, four, joined}
 use Rattle.vbk_write.specs.Clip.{Entry, Clip, entryAt, entriesFrom, says, wholeFrom, whole, headBytes, entryBytes, headerBytes, bytesOf}
+use Rattle.vbk_write.specs.Trips.{Sound, AllSound, none, more, Good, ReadBack}
 use Rattle.vbk_write.proofs.Lengths.{length-joined, length-two, length-four, length-head, length-header}
 use Rattle.vbk_write.proofs.Places.{At, at-rest, at-first, at-second, at-place, at-joined, le2-is, read-two, read-four, signed-word}
-
--- a record that the reader takes as it stands
-pub record Sound (e : Entry) : Type 0 where
-  pub size-is : e .size ≤ 3
-  pub lossless-is : e .lossless ≤ 1
-  pub tokens-are : length (e .tokens) ≡ area (e .size + 2)
-  pub tokens-fit : (k : ℕ) → mag (getD (e .tokens) k (pos 0)) < 2 ^ 31
-
--- every record is
-pub data AllSound : List Entry → Type 0 where
-  none : AllSound []
-  more : {e : Entry} {es : List Entry} → Sound e → AllSound es → AllSound (e ∷ es)
 
 -- ---- one record
 -- two bytes at a place of the head
@@ -169,14 +155,6 @@ module _ (s : List ℕ) where
       (next-entry s at e es ok k here (r .0), next-whole s at e ok k here (r .1))
 
 -- ---- the whole file
--- a clip that the reader takes as it stands
-pub record Good (c : Clip) : Type 0 where
-  pub depth-is : badDepth (c .depth) ≡ false
-  pub samples-are : length (c .samples) ≡ c .width * c .height
-  pub area-is : badArea (c .width * c .height) ≡ false
-  pub short : length (bytesOf c) ≤ 65535
-  pub entries-are : AllSound (c .entries)
-
 pub clip-same : (a b : Clip) → a .depth ≡ b .depth → a .width ≡ b .width → a .height ≡ b .height → a .samples ≡ b .samples → a .entries ≡ b .entries → a ≡ b
 clip-same a b p q r t u = rw (p, q, r, t, u)
 
@@ -235,7 +213,7 @@ module _ (c : Clip) (g : Good c) where
       sym (tabulate-is 0 (sampleAt s 10) (c .samples) (planeArea s) (g .samples-are ∙ sym area-back)
       (λ k l. sym (read-two (getD (c .samples) k 0) (at-joined two 2 length-two 0 (c .samples) s 10 (at-first samples records rest) k (omega (arith, l, area-back, g .samples-are))))))
 
-  pub header-back : headerAnswer s ≡ 0
+  header-back : headerAnswer s ≡ 0
   unfolding headerAnswer
   header-back =
       rw (le-ltb 65535 (length s) (g .short), le-ltb (length s) 10 (omega (arith, all-long)), mark-back, version-back, depth-back, g .depth-is, area-back, g .area-is, le-ltb (length s) (10 + 2 * (c .width * c .height)) (omega (arith, samples-long, all-long)))
@@ -246,10 +224,14 @@ module _ (c : Clip) (g : Good c) where
       (omega (arith, first-is, all-long)) (omega arith)
 
   -- the reader finds what was written, nothing else, and nothing wrong
-  pub says-back : says s ≡ c
+  says-back : says s ≡ c
   unfolding says
   says-back = clip-same (says s) c depth-back width-back height-back samples-back (records-back .0)
 
-  pub whole-back : whole s ≡ true
+  whole-back : whole s ≡ true
   unfolding whole
   whole-back = rw (header-back, records-back .1)
+
+-- A GOOD CLIP, AS IT IS WRITTEN, IS READ BACK, at depth 12 too
+pub clip-read-back : (c : Clip) → Good c → ReadBack c (bytesOf c)
+clip-read-back c g = record { header = header-back c g; says-it = says-back c g; all-whole = whole-back c g }

@@ -1,21 +1,22 @@
 -- The round trips of the call: whatever it accepts, the reader reads back equal; and a whole file comes back byte for byte.
 use mathlib.Core.Path.{_≡_, refl, sym, ap, _∙_, subst}
-use mathlib.Core.Bool.{Bool, true, false, not, _||_}
-use mathlib.Core.Logic.{⊎-elim}
-use mathlib.Core.List.{List, [], _∷_}
+use mathlib.Core.Bool.{Bool, true, false, not}
+use mathlib.Core.List.{List, _++_}
 use Prim.Native.Nat.{ℕ, zero, suc, _+_, _-_, _*_, _≤_, _<_, _^_}
 use native.Mathlib.Nat as NatL
 use native.Mathlib.Numerals.{add-one}
 use native.Mathlib.Omega.{arith}
-use borrow.Author.Tests.{le-ltb, lt-ltb, ltb-true, ltb-false, eqb-true, eq-eqb, ne-eqb, not-false}
+use borrow.Author.Tests.{le-ltb, ltb-true, ltb-false, eqb-true, eq-eqb, ne-eqb, not-false}
 use lib.Dec.{ltb, eqb}
-use lib.IntN.{ℤ, pos, negsuc}
-use lib.ListN.{length, getD, List·getD-eq-default}
+use lib.IntN.{pos}
+use lib.ListN.{length, getD, take, drop, List·getD-eq-default}
+use lib.Seq.{take-append-seam}
 use lib.Signed.{mag}
 use Rattle.whole.specs.Lists.{tabulate}
 use Rattle.whole.specs.Tests.{anyBelow}
 use Rattle.whole.proofs.Lists.{length-tabulate, getD-tabulate}
 use Rattle.whole.proofs.Tests.{any-at, any-none, any-more}
+use Rattle.answers.specs.Answers.{number}
 use Rattle.answers.specs.Bad.{badDepth, retired}
 use Rattle.answers.specs.Sizes.{area}
 use Rattle.vbk_read.specs.Bytes.{le4, signed32}
@@ -24,14 +25,14 @@ use Rattle.vbk_read.specs.Records.{sizeAt, losslessAt, tokenAt, tokensAt, nextA
 use Rattle.vbk_read.proofs.Headers.{good}
 use Rattle.vbk_write.specs.Clip.{Entry, Clip, entryAt, entriesFrom, says, wholeFrom, whole, bytesOf}
 use Rattle.vbk_write.specs.Lent.{Lent, Alike, tokensBefore, tokensFrom, entryOf, clipOf, fileOf}
-use Rattle.vbk_write.specs.Promises.{anyAbove, badLists, badCounts, badTotal, misfit, tooLarge, answerOf}
-use Rattle.vbk_write.specs.Inner.{fileLength}
-use Rattle.vbk_write.specs.Trips.{Tokens32, Bytes, ReadBack}
+use Rattle.vbk_write.specs.Promises.{anyAbove, badLists, badCounts, badTotal, misfit, tooLarge, answerOf, Wrote}
+use Rattle.vbk_write.specs.declared.Written.{Written}
+use Rattle.vbk_write.specs.Trips.{Tokens32, Bytes, Sound, AllSound, none, more, Good, ReadBack}
 use Rattle.vbk_write.proofs.Counts.{none-above}
-use Rattle.vbk_write.proofs.Lengths.{Fit, fit, file-length}
+use Rattle.vbk_write.proofs.Lengths.{fit, file-length}
 use Rattle.vbk_write.proofs.Answers.{Taken, taken, is-done, is-retired, together}
-use Rattle.vbk_write.proofs.Back.{Sound, AllSound, none, more, Good, header-back, says-back, whole-back, no-entries}
-use Rattle.vbk_write.proofs.Forth.{There, there, Next, whole-more, and-left, and-right, forth}
+use Rattle.vbk_write.proofs.Back.{clip-read-back, no-entries}
+use Rattle.vbk_write.proofs.Forth.{there, Next, whole-more, and-left, and-right, forth}
 
 -- ---- what is taken is sound
 all-sound : (f : ℕ → Entry) (n : ℕ) → ((k : ℕ) → k < n → Sound (f k)) → AllSound (tabulate f n)
@@ -78,11 +79,17 @@ module _ (l : Lent) (room : ℕ) (by : Tokens32 (l .tokens)) (t : Taken l room) 
       }
 
 -- whatever is accepted is read back
-pub read-back : (l : Lent) (room : ℕ) → Tokens32 (l .tokens) → answerOf l room ≡ 0 → ReadBack l
+pub read-back : (l : Lent) (room : ℕ) → Tokens32 (l .tokens) → answerOf l room ≡ 0 → ReadBack (clipOf l) (fileOf l)
 unfolding fileOf
-read-back l room by h =
-    let g = good-clip l room by (taken l room h) in
-    record { header = header-back (clipOf l) g; says-it = says-back (clipOf l) g; all-whole = whole-back (clipOf l) g }
+read-back l room by h = clip-read-back (clipOf l) (good-clip l room by (taken l room h))
+
+-- and so of the call: the bytes that it leaves at the buffer's front, as many as it says
+pub call-read-back : (l : Lent) (out : List ℕ) (r : Written) (after : List ℕ) → Tokens32 (l .tokens) → Wrote l out r after → number (r .answer) ≡ 0 → ReadBack (clipOf l) (take (r .length) after)
+call-read-back l out r after by w h =
+    let z : answerOf l (length out) ≡ 0 = sym (w .answered) ∙ h in
+    let n : r .length ≡ length (fileOf l) = w .length-is ∙ rw z in
+    let o : after ≡ fileOf l ++ drop (length (fileOf l)) out = w .out-is ∙ rw z in
+    rw (n, o, take-append-seam (fileOf l) (drop (length (fileOf l)) out)) (read-back l (length out) by z)
 
 -- ---- a whole file is taken
 all-below : (p : ℕ → Bool) (n : ℕ) → ((k : ℕ) → k < n → p k ≡ false) → anyBelow p n ≡ false
