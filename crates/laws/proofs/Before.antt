@@ -1,5 +1,5 @@
 -- AS BEFORE: where the stride is the width, reconstruction is what it was when a plane had none. The definitions of then are kept for this law alone.
-use mathlib.Core.Path.{_≡_, refl, sym, ap, _∙_}
+use mathlib.Core.Path.{_≡_, refl, _∙_}
 use mathlib.Core.Bool.{Bool, true, false, cond, not, _||_}
 use mathlib.Core.List.{List, [], _∷_}
 use Prim.Native.Nat.{ℕ, _+_, _*_, _/_, _%_}
@@ -18,6 +18,9 @@ use Rattle.plane.specs.declared.Plane.{Plane}
 use Rattle.plane.specs.Place.{cut}
 use Rattle.plane.specs.Plane.{sampleAfter, planeAfter}
 use Rattle.reconstruct.specs.Reconstruct.{Input, largest, badQuantizers, badPlane, badCoefficient, answerOf, residual, added, samplesAfter, Reconstructed}
+use Rattle.report.specs.Classes.{one, itself}
+use Rattle.report.specs.Report as T
+use Rattle.report.specs.Report.{reportAnswer, noted}
 
 -- ---- as it was: none of these reads the stride
 unfoldable pub badPlaneBefore : ℕ → Plane → Bool
@@ -50,6 +53,17 @@ samplesBefore u =
     (λ i j. getD (residual (u .size) (u .dc) (u .ac) (u .tx-type) (u .lossless) (u .tokens)) (i * side (u .size + 2) + j) (pos 0)) (u .samples))
     (u .samples)
 
+-- with a report beside it
+unfoldable pub reportAnswerBefore : T.Input → ℕ
+reportAnswerBefore u =
+    cond (eqb (answerBefore (u .block)) 0) (reportAnswer (length (u .block .tokens)) (u .counts) (u .sums)) (answerBefore (u .block))
+
+unfoldable pub reportSamplesBefore : T.Input → List ℕ
+reportSamplesBefore u = cond (eqb (reportAnswerBefore u) 0) (samplesBefore (u .block)) (u .block .samples)
+
+unfoldable pub listBefore : (ℕ → ℕ) → T.Input → List ℕ → List ℕ
+listBefore f u list = cond (eqb (reportAnswerBefore u) 0) (noted f (u .block .size) (length (u .block .tokens)) (u .block .tokens) list) list
+
 -- ---- and as it is
 twice : (a b : Bool) → a || (a || b) ≡ a || b
 twice true b = refl
@@ -78,3 +92,25 @@ module _ (u : Input) (e : u .plane .stride ≡ u .plane .width) where
   -- and so of the call
   pub call-as-before : (a : Answer) (after : List ℕ) → Reconstructed u a after → (number a ≡ answerBefore u) × (after ≡ samplesBefore u)
   call-as-before a after r = (r .answered ∙ as-before .0, r .written ∙ as-before .1)
+
+-- with a report beside it
+module _ (u : T.Input) (e : u .block .plane .stride ≡ u .block .plane .width) where
+  same-report : T.answerOf u ≡ reportAnswerBefore u
+  unfolding T.answerOf reportAnswerBefore
+  same-report = rw (same-answer (u .block) e)
+
+  same-samples : T.samplesAfter u ≡ reportSamplesBefore u
+  unfolding T.samplesAfter reportSamplesBefore
+  same-samples = rw (same-report, as-before (u .block) e .1)
+
+  same-list : (f : ℕ → ℕ) (list : List ℕ) → T.listAfter f u list ≡ listBefore f u list
+  unfolding T.listAfter listBefore
+  same-list f list = rw same-report
+
+  pub report-as-before : (T.answerOf u ≡ reportAnswerBefore u) × (T.samplesAfter u ≡ reportSamplesBefore u) × ((f : ℕ → ℕ) (list : List ℕ) → T.listAfter f u list ≡ listBefore f u list)
+  report-as-before = (same-report, same-samples, same-list)
+
+  pub report-call-as-before : (a : Answer) (samples counts sums : List ℕ) → T.Reported u a samples counts sums
+      → (number a ≡ reportAnswerBefore u) × (samples ≡ reportSamplesBefore u) × (counts ≡ listBefore one u (u .counts)) × (sums ≡ listBefore itself u (u .sums))
+  report-call-as-before a samples counts sums r =
+      (r .answered ∙ same-report, r .written ∙ same-samples, r .counted ∙ same-list one (u .counts), r .summed ∙ same-list itself (u .sums))

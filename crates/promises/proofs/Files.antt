@@ -19,6 +19,7 @@ use Rattle.vbk_read.specs.declared.Record.{Record}
 use Rattle.vbk.specs.Replay.{RECORD_LIMIT}
 use Rattle.vbk.specs.Promises.{roomy, runAnswer, Replayed}
 use Rattle.vbk.specs.declared.Run.{Run}
+use Rattle.vbk_report.specs.Promises.{ReplayedReport}
 use Rattle.promises.specs.Exactly.{InOrder}
 use Rattle.promises.specs.When as W
 use Rattle.promises.proofs.Exactly.{Each, none, more, here-if, in-order, renumber, later, each-later}
@@ -217,4 +218,10 @@ run-order s samples answers =
 pub run-when : (s samples answers : List ℕ) (r : Run) (samples′ answers′ : List ℕ) → Replayed s samples answers r samples′ answers′
     → InOrder (W.Run s samples answers) W.runNumbers (number (r .answer))
 run-when s samples answers r samples′ answers′ p =
+    subst (λ (n : ℕ). InOrder (W.Run s samples answers) W.runNumbers n) (sym (p .answered)) (run-order s samples answers)
+
+-- `replay_report`: the same numbers, whatever its records are answered
+pub report-run-when : (s samples answers counts sums : List ℕ) (r : Run) (samples′ answers′ counts′ sums′ : List ℕ) → ReplayedReport s samples answers counts sums r samples′ answers′ counts′ sums′
+    → InOrder (W.Run s samples answers) W.runNumbers (number (r .answer))
+report-run-when s samples answers counts sums r samples′ answers′ counts′ sums′ p =
     subst (λ (n : ℕ). InOrder (W.Run s samples answers) W.runNumbers n) (sym (p .answered)) (run-order s samples answers)

@@ -12,6 +12,8 @@ use Rattle.vbk.specs.Replay.{Reconstruction, After, touchedBy, planeOf, rebuild
 use Rattle.vbk_write.specs.Clip.{Entry, Clip, entryAt, entriesFrom, says, wholeFrom, whole}
 use Rattle.vbk_write.proofs.Back.{no-entries}
 use Rattle.vbk_write.proofs.Forth.{whole-more, and-right}
+use Rattle.vbk_report.specs.Lists.{beside}
+use Rattle.vbk_report.specs.Run.{reportReconstruction, reportRun}
 use Rattle.promises.specs.Played.{rebuilt, writtenBy, played}
 
 module _ (R : Reconstruction) (s : List ℕ) where
@@ -43,7 +45,16 @@ module _ (R : Reconstruction) (s : List ℕ) where
       go false e r =
           none-left k at samples e ∙ ap (λ (es : List Entry). played R (says s) es samples) (sym (no-entries s at (ltb-false at (length s) e) (suc k)))
 
-  -- the records of the run are those that the file says
+  -- the records of the run are those that the file says, whatever list they start from
+  pub records-played : whole s ≡ true → (list : List ℕ) → records R s (length s) (firstRecord s) list ≡ played R (says s) (says s .entries) list
+  unfolding says whole
+  records-played h list = same-records (length s) (firstRecord s) list (and-right (eqb (headerAnswer s) 0) _ h)
+
   pub run-played : whole s ≡ true → recordsOf R s ≡ played R (says s) (says s .entries) (says s .samples)
-  unfolding recordsOf says whole
-  run-played h = same-records (length s) (firstRecord s) (samplesOf s) (and-right (eqb (headerAnswer s) 0) _ h)
+  unfolding recordsOf says
+  run-played h = records-played h (samplesOf s)
+
+-- and with a report beside the samples
+pub report-played : (s counts sums : List ℕ) → whole s ≡ true → reportRun s counts sums ≡ played reportReconstruction (says s) (says s .entries) (beside (says s .samples) counts sums)
+unfolding reportRun says
+report-played s counts sums h = records-played reportReconstruction s h (beside (samplesOf s) counts sums)

@@ -3,10 +3,10 @@ use mathlib.Core.Path.{_≡_, refl, sym, ap, subst, _∙_}
 use mathlib.Core.Bool.{Bool, true, false, cond, _||_}
 use mathlib.Core.List.{List, [], _∷_}
 use mathlib.Core.Logic.{_⊎_, inl, inr}
-use Prim.Native.Nat.{ℕ, suc, _+_, _*_, _<_}
+use Prim.Native.Nat.{ℕ, suc, _+_, _*_, _≤_, _<_}
 use native.Mathlib.Decide.{ℕ-discrete}
 use native.Mathlib.Omega.{arith}
-use borrow.Author.Tests.{ltb-true, lt-ltb, eq-eqb, ne-eqb}
+use borrow.Author.Tests.{ltb-true, lt-ltb, le-ltb, eq-eqb, ne-eqb}
 use lib.Dec.{eqb}
 use lib.ListN.{length, getD}
 use Rattle.whole.proofs.Tests.{any-hit}
@@ -16,6 +16,10 @@ use Rattle.answers.specs.Limits.{codeable}
 use Rattle.reconstruct.specs.Reconstruct as R
 use Rattle.report.specs.Report as P
 use Rattle.report.specs.Report.{TOTAL_LIMIT, ENTRIES, total, badTotal, badSums, reportAnswer}
+use Rattle.vbk_read.specs.Records.{losslessAt, ends}
+use Rattle.vbk.specs.Replay.{recordAt}
+use Rattle.vbk_report.specs.Run.{reportReconstruction}
+use Rattle.vbk_report.proofs.Given.{givenAt, good-record}
 use Rattle.promises.specs.Conditions.{SumBeyond}
 use Rattle.promises.specs.Exactly.{Exactly}
 use Rattle.promises.specs.When as W
@@ -148,3 +152,7 @@ module _ (u : P.Input) where
 -- `reconstruct_block_report`
 pub report-when : (u : P.Input) (a : Answer) (samples counts sums : List ℕ) → P.Reported u a samples counts sums → Exactly (W.Report u) (number a)
 report-when u a samples counts sums r = subst (λ (n : ℕ). Exactly (W.Report u) n) (sym (r .answered)) (report-exactly u)
+
+-- a record of `replay_report` that its own checks pass: with the report as the records before it left it
+pub report-record-when : (s : List ℕ) (at : ℕ) (l : List ℕ) → ends s at ≡ false → losslessAt s at ≤ 1 → Exactly (W.Report (givenAt s at l)) (recordAt reportReconstruction s at l .answer)
+report-record-when s at l e h = rw (good-record s at l e (le-ltb 1 (losslessAt s at) h)) (report-exactly (givenAt s at l))

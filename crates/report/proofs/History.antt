@@ -1,4 +1,4 @@
--- THE HISTORY LAW: from an empty report, whatever calls were made and however they were answered, the report is the recount of the blocks that were done.
+-- THE HISTORY LAW: whatever calls were made and however they were answered, a report grows by the recount of the blocks that were done; from an empty report it is that recount.
 use mathlib.Core.Path.{_≡_, refl, sym, ap, _∙_}
 use mathlib.Core.Bool.{Bool, true, false, cond, _&&_}
 use mathlib.Core.List.{List}
@@ -16,7 +16,7 @@ use Rattle.answers.specs.Sizes.{area}
 use Rattle.reconstruct.specs.Reconstruct as R
 use Rattle.report.specs.Classes.{CLASSES, sumBelow, shares, one, itself}
 use Rattle.report.specs.Report.{ENTRIES, entry, Input, answerOf, noted, listAfter, Reported}
-use Rattle.report.specs.History.{Call, empty, History, none, next, isDone, blocks, recount, Recounted}
+use Rattle.report.specs.History.{Call, empty, History, none, next, isDone, blocks, recount, Added, Recounted}
 use Rattle.report.proofs.OneClass.{sum-plus, sum-same, sum-zero, all-counted}
 use Rattle.report.proofs.Table.{good}
 
@@ -76,7 +76,7 @@ grown (next {counts} {sums} {c = call} {cs = cs} r h) p q s c hs hc =
     (omega (arith, ih .0, a), omega (arith, ih .1, b))
 
 -- reconstruction's own answer was 0
-own-zero : (u : Input) → answerOf u ≡ 0 → R.answerOf (u .block) ≡ 0
+pub own-zero : (u : Input) → answerOf u ≡ 0 → R.answerOf (u .block) ≡ 0
 unfolding answerOf
 own-zero u h = go (ℕ-discrete (R.answerOf (u .block)) 0)
   where
@@ -110,13 +110,26 @@ add-up (next {counts} {sums} {counts₁} {sums₁} {samples = samples} {c = call
 nothing : (k : ℕ) → getD empty k 0 ≡ 0
 nothing k = getD-replicate ENTRIES k
 
+-- FROM ANY REPORT, good or not: its lists have an entry for each size and class
+pub history-from : (counts sums : List ℕ) (cs : List Call) (counts′ sums′ : List ℕ) → length counts ≡ ENTRIES → length sums ≡ ENTRIES → History counts sums cs counts′ sums′ → Added cs counts sums counts′ sums′
+history-from counts sums cs counts′ sums′ p q h =
+    record {
+      counts-grow = λ s c hs hc. grown h p q s c hs hc .0;
+      sums-grow = λ s c hs hc. grown h p q s c hs hc .1;
+      add-up = λ s hs.
+          sum-same _ (λ c. getD counts (entry s c) 0 + recount one s c cs) 11 (λ c hc. grown h p q s c hs hc .0)
+          ∙ sum-plus (λ c. getD counts (entry s c) 0) (λ c. recount one s c cs) 11
+          ∙ ap (λ (n : ℕ). sumBelow (λ c. getD counts (entry s c) 0) 11 + n) (add-up h s);
+    }
+
+-- FROM AN EMPTY ONE
 pub history-law : (cs : List Call) (counts sums : List ℕ) → History empty empty cs counts sums → Recounted cs counts sums
 history-law cs counts sums h =
+    let a = history-from empty empty cs counts sums refl refl h in
     record {
-      counts-are = λ s c hs hc. grown h refl refl s c hs hc .0 ∙ ap (λ (x : ℕ). x + recount one s c cs) (nothing (entry s c)) ∙ omega arith;
-      sums-are = λ s c hs hc. grown h refl refl s c hs hc .1 ∙ ap (λ (x : ℕ). x + recount itself s c cs) (nothing (entry s c)) ∙ omega arith;
+      counts-are = λ s c hs hc. a .counts-grow s c hs hc ∙ ap (λ (x : ℕ). x + recount one s c cs) (nothing (entry s c)) ∙ omega arith;
+      sums-are = λ s c hs hc. a .sums-grow s c hs hc ∙ ap (λ (x : ℕ). x + recount itself s c cs) (nothing (entry s c)) ∙ omega arith;
       add-up = λ s hs.
-          sum-same _ (λ c. recount one s c cs) 11
-          (λ c hc. grown h refl refl s c hs hc .0 ∙ ap (λ (x : ℕ). x + recount one s c cs) (nothing (entry s c)) ∙ omega arith)
-          ∙ add-up h s;
+          a .add-up s hs
+          ∙ ap (λ (x : ℕ). x + area (s + 2) * blocks s cs) (sum-same _ (λ c. 0) 11 (λ c hc. nothing (entry s c)) ∙ sum-zero 11) ∙ omega arith;
     }

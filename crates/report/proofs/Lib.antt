@@ -3,3 +3,4 @@ pub mod Notes
 pub mod Above
 pub mod Table
 pub mod History
+pub mod Good

@@ -44,7 +44,14 @@ recount f size class [] = 0
 recount f size class (c ∷ cs) =
     cond (isDone size c) (shares f class (length (c .block .tokens)) (c .block .tokens)) 0 + recount f size class cs
 
--- a report is what the history's blocks give: every count and sum the recount's, and the counts of a size n0² for each block
+-- from one report to another: every count and sum grows by the recount's, and the counts of a size by n0² for each block
+pub record Added (cs : List Call) (counts sums counts′ sums′ : List ℕ) : Type 0 where
+  pub counts-grow : (size class : ℕ) → size < 4 → class < CLASSES → getD counts′ (entry size class) 0 ≡ getD counts (entry size class) 0 + recount one size class cs
+  pub sums-grow : (size class : ℕ) → size < 4 → class < CLASSES → getD sums′ (entry size class) 0 ≡ getD sums (entry size class) 0 + recount itself size class cs
+  pub add-up : (size : ℕ) → size < 4
+      → sumBelow (λ class. getD counts′ (entry size class) 0) CLASSES ≡ sumBelow (λ class. getD counts (entry size class) 0) CLASSES + area (size + 2) * blocks size cs
+
+-- from no token: a report is what the history's blocks give: every count and sum the recount's, and the counts of a size n0² for each block
 pub record Recounted (cs : List Call) (counts sums : List ℕ) : Type 0 where
   pub counts-are : (size class : ℕ) → size < 4 → class < CLASSES → getD counts (entry size class) 0 ≡ recount one size class cs
   pub sums-are : (size class : ℕ) → size < 4 → class < CLASSES → getD sums (entry size class) 0 ≡ recount itself size class cs

@@ -71,7 +71,7 @@ module _ (s : List ℕ) (at : ℕ) (l : List ℕ) where
   good-record p q = rw (p, q)
 
 -- a list of the report stays as long as it is
-list-length : (f : ℕ → ℕ) (u : Input) (list : List ℕ) → length (listAfter f u list) ≡ length list
+pub list-length : (f : ℕ → ℕ) (u : Input) (list : List ℕ) → length (listAfter f u list) ≡ length list
 unfolding listAfter noted
 list-length f u list = go (eqb (answerOf u) 0)
   where

@@ -15,9 +15,9 @@ use Rattle.answers.specs.Bad.{badDepth, badSize, badLossless, badTxType, anyBey
 use Rattle.answers.proofs.Numbers.{numbered}
 use Rattle.reconstruct.specs.Reconstruct as R
 use Rattle.report.specs.Classes.{one, itself}
-use Rattle.report.specs.Report.{Input, badTotal, badSums, reportAnswer, answerOf, samplesAfter, listAfter, Reported}
-use Rattle.report.specs.History.{Call, empty, History, none, next, Recounted}
-use Rattle.report.proofs.History.{history-law}
+use Rattle.report.specs.Report.{ENTRIES, Input, badTotal, badSums, reportAnswer, answerOf, samplesAfter, listAfter, Reported}
+use Rattle.report.specs.History.{Call, empty, History, none, next, Added, Recounted}
+use Rattle.report.proofs.History.{history-from, history-law}
 use Rattle.vbk_read.specs.Header.{samplesOf, firstRecord}
 use Rattle.vbk_read.specs.Records.{losslessAt, found, ends, readOn}
 use Rattle.vbk.specs.Replay.{Rebuilt, recordAt, records}
@@ -73,7 +73,7 @@ call-number u =
     pick (eqb (R.answerOf (u .block)) 0) _ _ (pick (badTotal (length (u .block .tokens)) (u .counts) || badSums (u .counts) (u .sums)) 15 0 refl refl) (own-number (u .block))
 
 -- the call's promise is kept
-kept : (s : List ℕ) (at : ℕ) (l : List ℕ)
+pub kept : (s : List ℕ) (at : ℕ) (l : List ℕ)
     → Reported (record { block = callAt s at l .block; counts = countsIn l; sums = sumsIn l }) (callAt s at l .answer) (samplesAfter (givenAt s at l)) (countsIn (besideAfter (givenAt s at l))) (sumsIn (besideAfter (givenAt s at l)))
 kept s at l =
     let u = givenAt s at l in
@@ -139,6 +139,12 @@ module _ (s samples answers counts sums : List ℕ) (r : Run) (samples′ answer
       let c : counts′ ≡ countsIn (reportRun s counts sums .samples) = p .counts-are ∙ rw z in
       let m : sums′ ≡ sumsIn (reportRun s counts sums .samples) = p .sums-are ∙ rw z in
       rw (c, m) (run-history s counts sums)
+
+-- from any report every count and sum grows by the recount's over the run's blocks
+pub replayed-added : (s samples answers counts sums : List ℕ) (r : Run) (samples′ answers′ counts′ sums′ : List ℕ) → length counts ≡ ENTRIES → length sums ≡ ENTRIES
+    → ReplayedReport s samples answers counts sums r samples′ answers′ counts′ sums′ → runAnswer s samples answers ≡ 0 → Added (callsOf s counts sums) counts sums counts′ sums′
+replayed-added s samples answers counts sums r samples′ answers′ counts′ sums′ m n p z =
+    history-from counts sums (callsOf s counts sums) counts′ sums′ m n (replayed-history s samples answers counts sums r samples′ answers′ counts′ sums′ p z)
 
 -- from an empty report every count and sum is the recount's over the run's blocks
 pub replayed-recount : (s samples answers : List ℕ) (r : Run) (samples′ answers′ counts′ sums′ : List ℕ) → ReplayedReport s samples answers empty empty r samples′ answers′ counts′ sums′ → runAnswer s samples answers ≡ 0

@@ -4,3 +4,4 @@ pub mod Runs
 pub mod Unique
 pub mod Same
 pub mod History
+pub mod Room
