@@ -1,5 +1,5 @@
 mod Three
 pub mod Table
-mod Exchange
+pub mod Exchange
 pub mod Straight
 pub mod Arrays

@@ -24,10 +24,6 @@ use Rattle.idct.specs.Driver.{Input}
 use Rattle.idct.specs.Inner.{shapeOf}
 use Rattle.idct.proofs.Answers.{possible, driven, under}
 use Rattle.idct32.specs.Engine.{within16, widthAnswer, answerOf32, blockAfter32, Driven32}
-use Rattle.narrow_small.specs.Inner.{front, rowsMade, made, staying}
-use Rattle.narrow_small.proofs.Scan.{front-length, front-at, front-short}
-use Rattle.narrow_small.proofs.Wht.{lossless-stays}
-use Rattle.idct32.proofs.Four.{four-within16}
 use native.Mathlib.Omega.{arith}
 use Rattle.idct32.proofs.Work.{area-most, short-under, taken, within-are, residual}
 
@@ -94,46 +90,3 @@ module _ {u : Input} {w : List ℤ} (k : Entered u w) where
       → x ≡ columns (apply (columnPass (u .tx-type) (u .lossless)) (u .n)) (λ z. z) (side (u .n)) (rows (apply (rowPass (u .tx-type) (u .lossless)) (u .n)) (side (u .n)) w)
       → after ≡ fill (area (u .n)) (λ p. rounding (u .n) (u .lossless) (getD x p (pos 0))) (u .block) → Driven32 u Done after
   stays e g h = done u (k .zero) (sym same ∙ sym e) (h ∙ residual (u .n) (u .tx-type) (u .lossless) (u .block) w (k .room) more (k .agree) g)
-
-  -- the same of a block that is not lossless, as the code has them
-  module _ (l : u .lossless ≡ false) where
-    pub lossy-possible : Possible (u .n) (u .tx-type) false
-    lossy-possible = subst (λ (b : Bool). Possible (u .n) (u .tx-type) b) l (k .possible)
-
-    pub lossy-leaves : false ≡ within16 (u .n) (u .tx-type) false w → Driven32 u Narrow (u .block)
-    lossy-leaves e = leaves (e ∙ ap (λ (b : Bool). within16 (u .n) (u .tx-type) b w) (sym l))
-
-    pub lossy-stays : true ≡ within16 (u .n) (u .tx-type) false w → {x after : List ℤ}
-        → x ≡ columns (apply (columnPass (u .tx-type) false) (u .n)) (λ z. z) (side (u .n)) (rows (apply (rowPass (u .tx-type) false) (u .n)) (side (u .n)) w)
-        → after ≡ fill (area (u .n)) (λ p. Round2 (getD x p (pos 0)) (bits (u .n))) (u .block) → Driven32 u Done after
-    unfolding rounding
-    lossy-stays e {x} g h =
-        stays (e ∙ ap (λ (b : Bool). within16 (u .n) (u .tx-type) b w) (sym l))
-        (g ∙ ap (λ (b : Bool). columns (apply (columnPass (u .tx-type) b) (u .n)) (λ z. z) (side (u .n)) (rows (apply (rowPass (u .tx-type) b) (u .n)) (side (u .n)) w)) (sym l))
-        (h ∙ ap (λ (b : Bool). fill (area (u .n)) (λ p. rounding (u .n) b (getD x p (pos 0))) (u .block)) (sym l))
-
--- ---- 4 by 4: the answer by what each pass leaves of the block's numbers
-module _ (s : List ℤ) (tx-type : ℕ) (lossless : Bool) (room : 16 ≤ length s) (h : shorts 16 s ≡ true) where
-  abbrev four : Input
-  four = record { block = s; n = 2; tx-type = tx-type; lossless = lossless }
-
-  enough : 16 ≤ length (front s)
-  enough = let e = front-length s in omega arith
-
-  front-same : within16 2 tx-type lossless s ≡ staying tx-type lossless (front s)
-  front-same = sym (within-are 2 tx-type lossless s (front s) room enough (front-at s)) ∙ four-within16 tx-type lossless (front s) enough (front-short s h)
-
-  pub four-leaves : D.answerOf four ≡ 0 → false ≡ staying tx-type lossless (front s) → Driven32 four Narrow s
-  four-leaves z e = narrow four z (front-same ∙ sym e)
-
-  pub four-stays : D.answerOf four ≡ 0 → true ≡ staying tx-type lossless (front s) → {after : List ℤ}
-      → after ≡ fill 16 (λ k. rounding 2 lossless (getD (made tx-type lossless (front s)) k (pos 0))) s → Driven32 four Done after
-  unfolding made rowsMade
-  four-stays z e g = done four z (front-same ∙ sym e) (g ∙ residual 2 tx-type lossless s (front s) room enough (front-at s) refl)
-
--- a lossless one never leaves 16 bits
-module _ (s : List ℤ) (tx-type : ℕ) (room : 16 ≤ length s) (h : shorts 16 s ≡ true) where
-  pub four-lossless : {after : List ℤ} → D.answerOf (four s tx-type true room h) ≡ 0
-      → after ≡ fill 16 (λ k. rounding 2 true (getD (made 0 true (front s)) k (pos 0))) s → Driven32 (four s tx-type true room h) Done after
-  unfolding made rowsMade
-  four-lossless z g = four-stays s tx-type true room h z (lossless-stays tx-type (front s) (enough s tx-type true room h) (front-short s h)) g

@@ -1,7 +1,6 @@
 pub mod Scan
 pub mod Work
 pub mod Small
-pub mod Four
 pub mod Answers
 mod Told
 mod Flat

@@ -78,6 +78,10 @@ pub shorts-none : (t : List ℤ) → shorts 0 t ≡ true
 unfolding shorts
 shorts-none t = refl
 
+pub shorts-next : (i : ℕ) (t : List ℤ) → shorts (i + 1) t ≡ short (getD t i (pos 0)) && shorts i t
+unfolding shorts
+shorts-next i t = rw add-one
+
 pub shorts-more : (i : ℕ) (t : List ℤ) → shorts i t ≡ true → short (getD t i (pos 0)) ≡ true → shorts (i + 1) t ≡ true
 unfolding shorts
 shorts-more i t h e = rw (add-one, e) h

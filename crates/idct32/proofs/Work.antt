@@ -26,7 +26,8 @@ use Rattle.blocks.proofs.Places.{in-row, in-column, by-place}
 use Rattle.blocks.proofs.Lines.{fill-length, fill-past, fill-at, line-same, line-at}
 use Rattle.blocks.proofs.Inverse.{side-most}
 use Rattle.blocks.proofs.Blocks.{block-ext, rows-length, rows-at, rows-past, columns-length, columns-at, columns-past}
-use Rattle.idct32.specs.Engine.{every, keptLine, keptRows, keptColumns, within16}
+use Rattle.weights.specs.Line.{keptLine}
+use Rattle.idct32.specs.Engine.{every, keptRows, keptColumns, within16}
 use Rattle.idct32.proofs.Scan.{and-left, and-no, fails, every-at, every-same, shorts-all, shorts-at}
 
 -- ---- a line of numbers of 16 bits
@@ -44,7 +45,7 @@ always-first step good [] t h = h
 always-first step good (s ∷ ss) t h = and-left (good t) (always step good ss (step s t)) h
 
 loaded : (p : Pass) (n : ℕ) (t : List ℤ) → keptLine p n t ≡ true → shorts (side n) t ≡ true
-unfolding keptLine kept kept2 fresh
+unfolding kept kept2 fresh
 loaded Dct n t h = always-first _ _ _ _ h
 loaded Adst n t h = always-first _ _ _ _ h
 loaded (Wht shift) n t h = always-first _ _ _ _ h

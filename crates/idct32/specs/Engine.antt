@@ -8,13 +8,9 @@ use lib.IntN.{ℤ}
 use Rattle.answers.specs.declared.Answer.{Answer}
 use Rattle.answers.specs.Answers.{number, lowest}
 use Rattle.answers.specs.Sizes.{side}
-use Rattle.steps.specs.Step2.{fresh}
-use Rattle.dct.specs.Dct.{dctRow}
-use Rattle.adst.specs.Adst.{adstSteps}
-use Rattle.wht.specs.Wht.{whtRow}
-use Rattle.narrow.specs.Kept.{kept, kept2}
 use Rattle.blocks.specs.Block.{row, column, rows}
-use Rattle.blocks.specs.Inverse.{Pass, Dct, Adst, Wht, apply, rowPass, columnPass, inverse2d}
+use Rattle.blocks.specs.Inverse.{Pass, apply, rowPass, columnPass, inverse2d}
+use Rattle.weights.specs.Line.{keptLine}
 use Rattle.idct.specs.Driver as D
 use Rattle.idct.specs.Driver.{Input}
 
@@ -22,12 +18,6 @@ use Rattle.idct.specs.Driver.{Input}
 unfoldable pub every : (ℕ → Bool) → ℕ → Bool
 every p zero = true
 every p (suc n) = p n && every p n
-
--- a line: all n0 numbers of T are of 16 bits as it is loaded and after every step of its transform
-unfoldable pub keptLine : Pass → ℕ → List ℤ → Bool
-keptLine Dct n t = kept (side n) (dctRow n) t
-keptLine Adst n t = kept2 (side n) (adstSteps n) (fresh t)
-keptLine (Wht shift) n t = kept (side n) (whtRow shift) t
 
 -- all rows of a block, and all columns
 unfoldable pub keptRows : Pass → ℕ → List ℤ → Bool

@@ -1,14 +1,14 @@
--- What only the contracts of inner functions read: a refusal of a 4 by 4 block that its numbers are the reason of.
+-- What only the contracts of inner functions read: a block of which place 0 alone is live.
 use mathlib.Core.Path.{_≡_}
-use mathlib.Core.Bool.{Bool}
+use mathlib.Core.Bool.{Bool, false}
 use mathlib.Core.List.{List}
-use Prim.Native.Nat.{ℕ}
+use Prim.Native.Nat.{ℕ, _≤_}
 use lib.IntN.{ℤ}
-use lib.ListN.{length}
-use Rattle.answers.specs.declared.Answer.{Answer}
-use Rattle.idct.specs.Inner.{shapeOf}
-use Rattle.idct32.specs.Engine.{Driven32}
+use Rattle.weights.specs.Inner.{total}
 
--- whatever the type, where nothing but the numbers is wrong
-unfoldable pub Refused4 : List ℤ → Answer → Type 0
-Refused4 s r = (tx-type : ℕ) (lossless : Bool) → shapeOf (length s) 2 tx-type lossless ≡ 0 → Driven32 (record { block = s; n = 2; tx-type = tx-type; lossless = lossless }) r s
+-- it is of type 0, and place 0 has all of its few magnitudes, which come to m
+pub record Flat (s : List ℤ) (m tx-type : ℕ) (lossless : Bool) : Type 0 where
+  pub lossy : lossless ≡ false
+  pub zero-kind : tx-type ≡ 0
+  pub few : m ≤ 31883
+  pub first : total 1 s ≡ m

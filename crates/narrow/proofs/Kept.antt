@@ -5,7 +5,7 @@ use mathlib.Core.List.{List, [], _∷_, _++_}
 use Prim.Native.Nat.{ℕ, zero, suc, _≤_, _<_}
 use native.Mathlib.Decide.{ℕ-discrete}
 use native.Mathlib.Omega.{arith}
-use lib.Dec.{T, leb, ltb, eqb, leb→le, ltb→lt}
+use lib.Dec.{T, leb, ltb, eqb, leb→le, ltb→lt, eqb→eq}
 use lib.IntN.{ℤ, pos, negℤ, _+ℤ_, _-ℤ_}
 use lib.ListN.{length, getD, set, length-set}
 use lib.Seq.{getD-set-same, getD-set-other}
@@ -152,14 +152,14 @@ module _ (n : ℕ) (t : List ℤ) (m : n ≤ length t) where
       let r = fill-shorts f k (λ i l. h i (omega arith)) e in
       shorts-all n (set u k (g k)) (shorts-set n u long k (g k) (λ i l ne. shorts-at n u r i l) (shorts-at n t e (f k) (h k (omega arith))))
 
--- ---- a step's places are below n, and two of them are not the same; A4 and Wh are not tested step by step
+-- ---- a step's places are below n, and two of them are not the same; A4 and Wh are of four numbers
 unfoldable pub placed : ℕ → Step → Bool
 placed n (Bf a b g f) = both (both (ltb a n) (ltb b n)) (not (eqb a b))
 placed n (Hd a b f) = both (both (ltb a n) (ltb b n)) (not (eqb a b))
 placed n (Neg i) = ltb i n
 placed n (Move k f) = both (leb k n) (allBelow k (λ i. ltb (f i) n))
-placed n A4 = false
-placed n (Wh k) = false
+placed n A4 = eqb n 4
+placed n (Wh k) = eqb n 4
 
 pub record Two (n a b : ℕ) : Type 0 where
   pub la : a < n
@@ -205,8 +205,8 @@ step-shorts n (Hd a b true) t h m e =
 step-shorts n (Neg i) t h m e = set-one n t m i (negℤ (getD t i (pos 0))) (ltb→lt i n h) e
 step-shorts n (Move k f) t h m e =
     fill-shorts n t m f k (λ i l. ltb→lt (f i) n (below k (λ j. ltb (f j) n) (b₂ (leb k n) (allBelow k (λ j. ltb (f j) n)) h) i l)) e
-step-shorts n A4 t h m e = absurd h
-step-shorts n (Wh k) t h m e = absurd h
+step-shorts n A4 t h m e = rw (eqb→eq n 4 h)
+step-shorts n (Wh k) t h m e = rw (eqb→eq n 4 h)
 
 -- such places are places that are written
 pub placed-writes : (n : ℕ) (s : Step) → T (placed n s) → T (writes n s)
@@ -215,8 +215,8 @@ placed-writes n (Bf a b g f) h = b₁ (both (ltb a n) (ltb b n)) (not (eqb a b))
 placed-writes n (Hd a b f) h = b₁ (both (ltb a n) (ltb b n)) (not (eqb a b)) h
 placed-writes n (Neg i) h = h
 placed-writes n (Move k f) h = b₁ (leb k n) (allBelow k (λ i. ltb (f i) n)) h
-placed-writes n A4 h = absurd h
-placed-writes n (Wh k) h = absurd h
+placed-writes n A4 h = rw (eqb→eq n 4 h) tt
+placed-writes n (Wh k) h = rw (eqb→eq n 4 h) tt
 
 -- ---- the condition is the test of each step, for a start of 16 bits
 pub kept-fits : (n : ℕ) (ss : List Step) (t : List ℤ) → T (every (placed n) ss) → n ≤ length t → shorts n t ≡ true → kept n ss t ≡ fitsAll ss t
@@ -237,8 +237,8 @@ fine-here n (Bf a b g f) t l h e = let w = two n a b h in (omega (arith, w .la),
 fine-here n (Hd a b f) t l h e = let w = two n a b h in (omega (arith, w .la), omega (arith, w .lb), e)
 fine-here n (Neg i) t l h e = (omega (arith, ltb→lt i n h), e)
 fine-here n (Move k f) t l h e = omega (arith, leb→le k n (b₁ (leb k n) (allBelow k (λ i. ltb (f i) n)) h))
-fine-here n A4 t l h e = absurd h
-fine-here n (Wh k) t l h e = absurd h
+fine-here n A4 t l h e = e
+fine-here n (Wh k) t l h e = e
 
 fits-ok : (n : ℕ) → n ≤ 32 → (ss : List Step) (t : List ℤ) → T (every (placed n) ss) → fitsAll ss t ≡ true → Ok step Fine16 ss t
 unfolding every passes

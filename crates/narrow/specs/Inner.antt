@@ -8,17 +8,13 @@ use lib.ListN.{getD}
 use Rattle.whole.specs.Round.{Round2}
 use Rattle.whole.specs.Within.{Within}
 use Rattle.primitives.specs.Rotations.{turnX, turnY, setPair}
-use Rattle.steps.specs.Step.{Step, Bf, Hd, Neg, Move, A4, Wh, step}
+use Rattle.steps.specs.Step.{Step, Bf, Hd, Neg, Move, A4, Wh, adst4, wht4, step}
 use Rattle.steps.specs.Step2.{Arrays, Step2, on, SB, SH, step2}
-use Rattle.narrow.specs.Kept.{short}
+use Rattle.narrow.specs.Kept.{short, shorts}
 
 -- both numbers that a step computes are of 16 bits
 unfoldable pub shortPair : ℤ → ℤ → Bool
 shortPair x y = short x && short y
-
--- all four are
-unfoldable pub shortFour : ℤ → ℤ → ℤ → ℤ → Bool
-shortFour x y z w = shortPair x y && shortPair z w
 
 -- x of a rotation of numbers a and b of t by a cosine and a sine, not rounded
 unfoldable pub spinX : List ℤ → ℕ → ℕ → ℤ → ℤ → ℤ
@@ -53,7 +49,7 @@ pub record Rotated (t : List ℤ) (a b : ℕ) (cos sin x y : ℤ) : Type 0 where
 unfoldable pub fitsH : ℤ → ℤ → Bool
 fitsH p q = shortPair (p +ℤ q) (p -ℤ q)
 
--- the numbers that a step computes for T are of 16 bits; Move computes none. A4 and Wh stand alone in their lists, and are told by `kept` itself
+-- the numbers that a step computes for T are of 16 bits; Move computes none, A4 and Wh all four
 unfoldable pub fits : Step → List ℤ → Bool
 fits (Bf a b angle flip) t =
     let p = getD t a (pos 0) in
@@ -63,8 +59,8 @@ fits (Hd a b false) t = fitsH (getD t a (pos 0)) (getD t b (pos 0))
 fits (Hd a b true) t = fitsH (getD t b (pos 0)) (getD t a (pos 0))
 fits (Neg i) t = short (negℤ (getD t i (pos 0)))
 fits (Move k f) t = true
-fits A4 t = false
-fits (Wh shift) t = false
+fits A4 t = shorts 4 (adst4 t)
+fits (Wh shift) t = shorts 4 (wht4 shift t)
 
 -- SB computes for S alone; SH sums S and rounds
 unfoldable pub fits2 : Step2 → Arrays → Bool
@@ -90,8 +86,8 @@ Fine16 (Bf a b angle flip) t = (a < 32) × (b < 32) × (fits (Bf a b angle flip)
 Fine16 (Hd a b flip) t = (a < 32) × (b < 32) × (fits (Hd a b flip) t ≡ true)
 Fine16 (Neg i) t = (i < 32) × (fits (Neg i) t ≡ true)
 Fine16 (Move k f) t = k ≤ 32
-Fine16 A4 t = ⊥
-Fine16 (Wh shift) t = ⊥
+Fine16 A4 t = fits A4 t ≡ true
+Fine16 (Wh shift) t = fits (Wh shift) t ≡ true
 
 -- how far SB reaches from a T of 16 bits: 32768 × 23170, since |cos64| + |sin64| is at most 2 × 11585
 abbrev pub reach : ℕ

@@ -1,4 +1,4 @@
-// Lines of 16-bit numbers: every number of T is an i16, every product and sum an i32. What is stored has to be of 16 bits; `flagged` has the
+// Lines of 16-bit numbers: every number of T is an i16, every product and sum an i32. What is stored has to be of 16 bits; `tested` has the
 // form that tests it.
 ghost use mathlib.Core.Path.{_≡_};
 ghost use mathlib.Core.Bool.{true, false};
@@ -63,7 +63,7 @@ pub fn is_short(x: i32) -> bool
 }
 
 // x to place a and y to place b; flip exchanges the two.
-fn put16(t: &mut [i16; 32], a: usize, b: usize, x: i32, y: i32, flip: bool)
+pub fn put16(t: &mut [i16; 32], a: usize, b: usize, x: i32, y: i32, flip: bool)
     requires { ⌜ (a < 32) × (b < 32) × (shortPair x y ≡ true) ⌝ }
     ensures { λ _. ⌜ now (t .exit) ≡ setPair (now (t .entry)) a b x y flip ⌝ }
 {

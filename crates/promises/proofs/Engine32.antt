@@ -23,7 +23,8 @@ use Rattle.narrow.proofs.Short.{short-above, short-below}
 use Rattle.blocks.specs.Block.{row, column, rows}
 use Rattle.blocks.specs.Inverse.{Pass, Dct, Adst, Wht, apply, rowPass, columnPass}
 use Rattle.idct.specs.Driver as D
-use Rattle.idct32.specs.Engine.{every, keptLine, keptRows, keptColumns, within16, widthAnswer, answerOf32, blockAfter32, Driven32}
+use Rattle.weights.specs.Line.{keptLine}
+use Rattle.idct32.specs.Engine.{every, keptRows, keptColumns, within16, widthAnswer, answerOf32, blockAfter32, Driven32}
 use Rattle.idct32.proofs.Scan.{never, and-no, every-fails, shorts-fails}
 use Rattle.promises.specs.Conditions.{Outside, above, below, SomeOutside, after, LineLeaves}
 use Rattle.promises.specs.Exactly.{Exactly}
@@ -107,13 +108,13 @@ module _ {A S : Type 0} (step : A → S → S) (good : S → Bool) where
       go (inr e) f = let g = f e in (suc (g .0), g .1)
 
 line-fails : (p : Pass) (n : ℕ) (t : List ℤ) → LineLeaves p n t → keptLine p n t ≡ false
-unfolding keptLine kept kept2 after
+unfolding kept kept2 after
 line-fails Dct n t l = always-fails step (shorts (side n)) (l .steps) (dctRow n) t (outside-shorts (side n) _ (l .some))
 line-fails Adst n t l = always-fails step2 (λ (u : Arrays). shorts (side n) (u .T)) (l .steps) (adstSteps n) (fresh t) (outside-shorts (side n) _ (l .some))
 line-fails (Wht shift) n t l = always-fails step (shorts (side n)) (l .steps) (whtRow shift) t (outside-shorts (side n) _ (l .some))
 
 line-leaves : (p : Pass) (n : ℕ) (t : List ℤ) → keptLine p n t ≡ false → LineLeaves p n t
-unfolding keptLine kept kept2 after
+unfolding kept kept2 after
 line-leaves Dct n t h = let f = always-some step (shorts (side n)) (dctRow n) t h in record { steps = f .0; some = some-outside (side n) _ (f .1) }
 line-leaves Adst n t h = let f = always-some step2 (λ (u : Arrays). shorts (side n) (u .T)) (adstSteps n) (fresh t) h in record { steps = f .0; some = some-outside (side n) _ (f .1) }
 line-leaves (Wht shift) n t h = let f = always-some step (shorts (side n)) (whtRow shift) t h in record { steps = f .0; some = some-outside (side n) _ (f .1) }

@@ -34,11 +34,11 @@ pub record AllKept (p q : Pass) (n : ℕ) (s : List ℤ) : Type 0 where
   pub of-column : (j : ℕ) → j < side n → Keeps q n (column (side n) j (rows (apply p n) (side n) s))
 
 -- THE law: 31883 is the greatest total for which these weights give it; a column's is at most 32690 then
-pub small-kept : (p q : Pass) (n : ℕ) (s : List ℤ) → 3 ≤ n → n ≤ 5 → Valid 2 p n → Valid 0 q n → area n ≤ length s → total (area n) s ≤ 31883 → AllKept p q n s
-small-kept p q n s l h v w room few =
+pub few-kept : (p q : Pass) (n : ℕ) (s : List ℤ) → 2 ≤ n → n ≤ 5 → Valid 2 p n → Valid 0 q n → area n ≤ length s → total (area n) s ≤ 31883 → AllKept p q n s
+few-kept p q n s l h v w room few =
     record {
       of-row = λ i hi. through i hi .0;
-      of-column = λ j hj. pass-weights 0 q n l w (between j) (long j n0 (rows R n0 s)) (column-small j hj) .0;
+      of-column = λ j hj. pass-weights 0 q n w (between j) (long j n0 (rows R n0 s)) (column-small j hj) .0;
     }
   where
     n0 : ℕ
@@ -51,13 +51,17 @@ small-kept p q n s l h v w room few =
     between j = column n0 j (rows R n0 s)
 
     most : n0 ≤ 32
-    most = side-most n (omega arith) h
+    most = side-most n l h
 
     long : (start step : ℕ) (u : List ℤ) → n0 ≤ length (line start step n0 u)
     long start step u = rw (line-length start step n0 u) most
 
     through : (i : ℕ) → i < n0 → Keeps p n (row n0 i s) × Reaches n0 16411 386740 (row n0 i s) (R (row n0 i s))
-    through i hi = pass-weights 2 p n l v (row n0 i s) (long (i * n0) 1 s) (omega (arith, total-row n0 i s most hi))
+    through i hi = pass-weights 2 p n v (row n0 i s) (long (i * n0) 1 s) (omega (arith, total-row n0 i s most hi))
 
     column-small : (j : ℕ) → j < n0 → 16411 * total n0 (between j) + 386740 < 536870912
     column-small j hj = omega (arith, column-total n0 16411 386740 R s most room (λ i hi. through i hi .1) j hj, most)
+
+-- from 8 by 8 on
+pub small-kept : (p q : Pass) (n : ℕ) (s : List ℤ) → 3 ≤ n → n ≤ 5 → Valid 2 p n → Valid 0 q n → area n ≤ length s → total (area n) s ≤ 31883 → AllKept p q n s
+small-kept p q n s l = few-kept p q n s (omega arith)

@@ -3,5 +3,6 @@ mod Forms
 mod Beside
 mod Steps
 mod Steps2
+mod Four
 pub mod Passes
 pub mod Blocks

@@ -58,28 +58,28 @@ calm k e A4 d = false
 calm k e (Wh shift) d = false
 
 -- ---- one step
-weigh-beside : {n : ℕ} {x : ℕ → ℤ} (s : Step) (d : List Form) (t : List ℤ) → T (placed n s) → Beside n x d t → Beside n x (weigh s d) (step s t)
-unfolding placed weigh step applyB applyH move
-weigh-beside {n} {x} (Bf a b g flip) d t h w =
+weigh-beside : {n : ℕ} {x : ℕ → ℤ} (k e : ℕ) (s : Step) (d : List Form) (t : List ℤ) → T (placed n s) → T (calm k e s d) → Beside n x d t → Beside n x (weigh s d) (step s t)
+unfolding placed calm weigh step applyB applyH move
+weigh-beside {n} {x} k e (Bf a b g flip) d t h c w =
     let o = two n a b h in
     let wa = w .each a (o .la) in
     let wb = w .each b (o .lb) in
     beside-pair a b flip w (w-round n x (w-turnX n x g wa wb)) (w-round n x (w-turnY n x g wa wb))
-weigh-beside {n} {x} (Hd a b false) d t h w =
+weigh-beside {n} {x} k e (Hd a b false) d t h c w =
     let o = two n a b h in
     let wa = w .each a (o .la) in
     let wb = w .each b (o .lb) in
     beside-two a b w (w-add n x wa wb) (w-sub n x wa wb)
-weigh-beside {n} {x} (Hd a b true) d t h w =
+weigh-beside {n} {x} k e (Hd a b true) d t h c w =
     let o = two n a b h in
     let wa = w .each a (o .la) in
     let wb = w .each b (o .lb) in
     beside-two b a w (w-add n x wb wa) (w-sub n x wb wa)
-weigh-beside {n} {x} (Neg i) d t h w = beside-set i w (w-neg n x (w .each i (ltb→lt i n h)))
-weigh-beside {n} (Move k f) d t h w =
-    beside-fill f k (λ i l. ltb→lt (f i) n (below k (λ j. ltb (f j) n) (b₂ (leb k n) (allBelow k (λ j. ltb (f j) n)) h) i l)) w
-weigh-beside A4 d t h w = absurd h
-weigh-beside (Wh shift) d t h w = absurd h
+weigh-beside {n} {x} k e (Neg i) d t h c w = beside-set i w (w-neg n x (w .each i (ltb→lt i n h)))
+weigh-beside {n} k e (Move l f) d t h c w =
+    beside-fill f l (λ i q. ltb→lt (f i) n (below l (λ j. ltb (f j) n) (b₂ (leb l n) (allBelow l (λ j. ltb (f j) n)) h) i q)) w
+weigh-beside k e A4 d t h c w = absurd c
+weigh-beside k e (Wh shift) d t h c w = absurd c
 
 -- a magnitude below 32768 is one of 16 bits
 pub low-short : (b : ℕ) (z : ℤ) → 16384 * natAbs z ≤ b → b < 536870912 → short z ≡ true
@@ -113,14 +113,15 @@ module _ (n k e : ℕ) (x : ℕ → ℤ) (small : k * mass n x + e < 536870912) 
       lights-short c (w-add n x wb wa) (w-sub n x wb wa)
   calm-fits (Neg i) d t h c w = light-short c (w-neg n x (w .each i (ltb→lt i n h)))
   calm-fits (Move l f) d t h c w = refl
-  calm-fits A4 d t h c w = absurd h
-  calm-fits (Wh shift) d t h c w = absurd h
+  calm-fits A4 d t h c w = absurd c
+  calm-fits (Wh shift) d t h c w = absurd c
 
   pub calm-step : (s : Step) (d : List Form) (t : List ℤ) → T (both (placed n s) (calm k e s d)) → Beside n x d t
       → (fits s t ≡ true) × Beside n x (weigh s d) (step s t)
   calm-step s d t h w =
       let o = b₁ (placed n s) (calm k e s d) h in
-      (calm-fits s d t o (b₂ (placed n s) (calm k e s d) h) w, weigh-beside s d t o w)
+      let q = b₂ (placed n s) (calm k e s d) h in
+      (calm-fits s d t o q w, weigh-beside k e s d t o q w)
 
 -- ---- a list of steps
 -- steps that pass one by one pass together

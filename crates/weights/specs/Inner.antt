@@ -5,12 +5,8 @@ use mathlib.Core.List.{List}
 use Prim.Native.Nat.{ℕ, zero, suc, _+_}
 use lib.IntN.{ℤ, pos, natAbs}
 use lib.ListN.{getD}
-use Rattle.answers.specs.Sizes.{side}
-use Rattle.steps.specs.Step2.{fresh}
-use Rattle.dct.specs.Dct.{dctRow}
-use Rattle.adst.specs.Adst.{adstSteps}
-use Rattle.narrow.specs.Kept.{kept, kept2}
-use Rattle.blocks.specs.Inverse.{Pass, Dct, Adst, Wht}
+use Rattle.blocks.specs.Inverse.{Pass}
+use Rattle.weights.specs.Line.{keptLine}
 
 -- f 0 + f 1 + .. + f (n - 1)
 unfoldable pub sum : ℕ → (ℕ → ℕ) → ℕ
@@ -23,6 +19,4 @@ total n s = sum n (λ i. natAbs (getD s i (pos 0)))
 
 -- every number of the line is of 16 bits on its whole way
 abbrev pub Keeps : Pass → ℕ → List ℤ → Type 0
-Keeps Dct n t = kept (side n) (dctRow n) t ≡ true
-Keeps Adst n t = kept2 (side n) (adstSteps n) (fresh t) ≡ true
-Keeps (Wht shift) n t = ⊥
+Keeps p n t = keptLine p n t ≡ true

@@ -10,7 +10,7 @@ use Rattle.blocks.specs.Inner.{Possible}
 use Rattle.blocks.specs.Inverse.{apply, rowPass, columnPass}
 use Rattle.blocks.proofs.Blocks.{rows-length}
 use Rattle.blocks.proofs.Passes.{row-valid, column-valid, adst-side}
-use Rattle.weights.proofs.Blocks.{AllKept, small-kept}
+use Rattle.weights.proofs.Blocks.{AllKept, few-kept}
 use Rattle.idct32.proofs.Work.{area-most}
 use Rattle.idct32.proofs.both.Statement.{statement}
 use Rattle.idct32.proofs.both.Tie as tie
@@ -19,7 +19,7 @@ use Rattle.idct32.proofs.both.Tie as tie
 kept : (s : tie.Start) → AllKept (rowPass (s .args .tx-type) false) (columnPass (s .args .tx-type) false) (s .args .n) (s .args .work .now)
 kept s =
     let p = s .pre .0 in
-    small-kept (rowPass (s .args .tx-type) false) (columnPass (s .args .tx-type) false) (s .args .n) (s .args .work .now) (s .pre .1) (p .most)
+    few-kept (rowPass (s .args .tx-type) false) (columnPass (s .args .tx-type) false) (s .args .n) (s .args .work .now) (p .least) (p .most)
     (row-valid (s .args .n) (s .args .tx-type) false p) (column-valid (s .args .n) (s .args .tx-type) false p)
     (rw (s .pre .2) (area-most (s .args .n) (p .least) (p .most))) (s .pre .3)
 

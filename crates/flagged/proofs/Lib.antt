@@ -1,3 +1,0 @@
-pub mod Clean
-pub mod Going
-pub mod Near

@@ -1,2 +1,0 @@
-mod Side
-mod Across

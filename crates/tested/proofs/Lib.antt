@@ -1,0 +1,6 @@
+mod Answers
+mod Lists
+mod Entries
+mod Going
+mod Four
+mod Done
