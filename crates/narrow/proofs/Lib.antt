@@ -6,3 +6,4 @@ pub mod Tried
 pub mod Reach
 pub mod Kept2
 pub mod Safe
+pub mod Tile
