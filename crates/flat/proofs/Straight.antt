@@ -1,5 +1,5 @@
 -- Code of literal calls in a row: call number k does step number k of a list.
-use mathlib.Core.Path.{_≡_, refl, subst, _∙_}
+use mathlib.Core.Path.{_≡_, refl, sym, ap, subst, _∙_}
 use mathlib.Core.List.{List, [], _∷_, _++_}
 use Prim.Native.Nat.{ℕ, suc, _<_}
 use lib.ListN.{length, getD, drop}
@@ -53,3 +53,14 @@ module _ {A S : Type 0} (step : A → S → S) where
   pub alone : {a : A} {t u : S} → u ≡ step a t → u ≡ run step (a ∷ []) t
   unfolding run
   alone e = e
+
+-- calls that together do the steps ss
+module _ {A S : Type 0} {step : A → S → S} {Fine : A → S → Type 0} {ss : List A} {lists : List (List A)} (whole : ss ≡ joined lists) where
+  pub ok-pieces : (t : S) → Ok step Fine ss t → Ok (run step) (Ok step Fine) lists t
+  ok-pieces t h = ok-joined step lists (subst (λ (xs : List A). Ok step Fine xs t) whole h)
+
+  abbrev pub begin-pieces : (t : S) → Ok step Fine ss t → Done (run step) (Ok step Fine) lists 0
+  begin-pieces t h = begin (ok-pieces t h)
+
+  pub end-pieces : {k : ℕ} (d : Done (run step) (Ok step Fine) lists k) → drop k lists ≡ [] → d .here ≡ run step ss (d .start)
+  end-pieces d e = end d e ∙ run-joined step lists (d .start) ∙ ap (λ (xs : List A). run step xs (d .start)) (sym whole)

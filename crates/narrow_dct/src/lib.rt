@@ -1,93 +1,47 @@
-// The inverse DCT of a line of 16-bit numbers: the calls of `flat`, over the single steps of `narrow`.
+// The inverse DCT of a line of 16-bit numbers, in pieces that are small enough for the compiler to inline them into the lines of rows and of columns alike:
+// only where a whole line is inlined do eight lines go side by side.
 ghost use mathlib.Core.Path.{_≡_};
-ghost use mathlib.Core.Bool.{true};
-ghost use Prim.Native.Nat.{_≤_};
-ghost use lib.ListN.{length};
+ghost use Prim.Native.Nat.{_*_, _^_, _≤_};
 ghost use Rattle.whole.specs.Steps.{run};
 ghost use Rattle.whole.specs.Inner.{Ok};
 ghost use Rattle.primitives.specs.Brev.{Brev};
 ghost use Rattle.steps.specs.Step.{Move, step};
-ghost use Rattle.dct.specs.Dct.{tail, dctRow, dct};
-ghost use Rattle.narrow.specs.Kept.{kept};
+ghost use Rattle.dct.specs.Dct.{tail, dctSteps};
 ghost use Rattle.narrow.specs.Inner.{Fine16};
+ghost use Rattle.narrow_dct.specs.Inner.{first4, last4, turns5, first5, next5, last5, sums5};
 
-// The permutation of 4 numbers.
-pub fn permute4(t: &mut [i16; 32])
-    ensures { λ _. ⌜ now (t .exit) ≡ step (Move 4 (Brev 2)) (now (t .entry)) ⌝ }
+// The permutation, in place: t[i] and t[brev(n, i)] change places for each of the 2^n = h k numbers i below its reverse, so each pair once.
+// Where n, h and k are literals, two loops of few turns unroll and every index folds; one of 32 turns would not.
+pub fn permute(t: &mut [i16; 32], n: u32, h: usize, k: usize)
+    requires { ⌜ (n ≤ 5) × (h * k ≡ 2 ^ n) ⌝ }
+    ensures { λ _. ⌜ now (t .exit) ≡ step (Move (2 ^ n) (Brev n)) (now (t .entry)) ⌝ }
 {
-    let from = [0, 2, 1, 3];
-    narrow::reorder16(t, &from, 0, 4);
+    for a in 0..h {
+        for b in 0..k {
+            let i = k * a + b;
+            let j = primitives::brev(n, i);
+            if i < j {
+                let x = t[i];
+                t[i] = t[j];
+                t[j] = x;
+            }
+        }
+    }
 }
 
-// The permutation of 8 numbers.
-pub fn permute8(t: &mut [i16; 32])
-    ensures { λ _. ⌜ now (t .exit) ≡ step (Move 8 (Brev 3)) (now (t .entry)) ⌝ }
+// B(0, 1, 16, 1), then steps 2 to 7 for n = 2.
+pub fn level2(t: &mut [i16; 32])
+    requires { ⌜ Ok step Fine16 (dctSteps 2) (now t) ⌝ }
+    ensures { λ _. ⌜ now (t .exit) ≡ run step (dctSteps 2) (now (t .entry)) ⌝ }
 {
-    let from = [0, 4, 2, 6, 1, 5, 3, 7];
-    narrow::reorder16(t, &from, 0, 8);
-}
-
-// The permutation of 16 numbers.
-pub fn permute16(t: &mut [i16; 32])
-    ensures { λ _. ⌜ now (t .exit) ≡ step (Move 16 (Brev 4)) (now (t .entry)) ⌝ }
-{
-    let from = [0, 8, 4, 12, 2, 10, 6, 14, 1, 9, 5, 13, 3, 11, 7, 15];
-    narrow::reorder16(t, &from, 0, 16);
-}
-
-// The permutation of 32 numbers.
-pub fn permute32(t: &mut [i16; 32])
-    ensures { λ _. ⌜ now (t .exit) ≡ step (Move 32 (Brev 5)) (now (t .entry)) ⌝ }
-{
-    let from = [
-        0,
-        16,
-        8,
-        24,
-        4,
-        20,
-        12,
-        28,
-        2,
-        18,
-        10,
-        26,
-        6,
-        22,
-        14,
-        30,
-        1,
-        17,
-        9,
-        25,
-        5,
-        21,
-        13,
-        29,
-        3,
-        19,
-        11,
-        27,
-        7,
-        23,
-        15,
-        31,
-    ];
-    narrow::reorder16(t, &from, 0, 32);
-}
-
-// Steps 2 to 7 for n = 2, where every number on the way is of 16 bits.
-fn dct_level2(t: &mut [i16; 32])
-    requires { ⌜ Ok step Fine16 (tail 2) (now t) ⌝ }
-    ensures { λ _. ⌜ now (t .exit) ≡ run step (tail 2) (now (t .entry)) ⌝ }
-{
+    narrow::fb16(t, 0, 1, 11585, 11585, true);
     narrow::fb16(t, 2, 3, 6270, 15137, false);
     narrow::fh16(t, 0, 3, false);
     narrow::fh16(t, 1, 2, false);
 }
 
-// Steps 2 to 7 for n = 3, where every number on the way is of 16 bits.
-fn dct_level3(t: &mut [i16; 32])
+// Steps 2 to 7 for n = 3.
+pub fn level3(t: &mut [i16; 32])
     requires { ⌜ Ok step Fine16 (tail 3) (now t) ⌝ }
     ensures { λ _. ⌜ now (t .exit) ≡ run step (tail 3) (now (t .entry)) ⌝ }
 {
@@ -102,10 +56,10 @@ fn dct_level3(t: &mut [i16; 32])
     narrow::fh16(t, 3, 4, false);
 }
 
-// Steps 2 to 7 for n = 4, where every number on the way is of 16 bits.
-fn dct_level4(t: &mut [i16; 32])
-    requires { ⌜ Ok step Fine16 (tail 4) (now t) ⌝ }
-    ensures { λ _. ⌜ now (t .exit) ≡ run step (tail 4) (now (t .entry)) ⌝ }
+// Steps 2 to 5a for n = 4.
+pub fn level4_first(t: &mut [i16; 32])
+    requires { ⌜ Ok step Fine16 first4 (now t) ⌝ }
+    ensures { λ _. ⌜ now (t .exit) ≡ run step first4 (now (t .entry)) ⌝ }
 {
     narrow::fb16(t, 8, 15, 1606, 16305, false);
     narrow::fb16(t, 9, 14, 12665, 10394, false);
@@ -117,6 +71,13 @@ fn dct_level4(t: &mut [i16; 32])
     narrow::fh16(t, 14, 15, true);
     narrow::fb16(t, 14, 9, 6270, 15137, true);
     narrow::fb16(t, 10, 13, -15137, -6270, true);
+}
+
+// Steps 5b to 7 for n = 4.
+pub fn level4_last(t: &mut [i16; 32])
+    requires { ⌜ Ok step Fine16 last4 (now t) ⌝ }
+    ensures { λ _. ⌜ now (t .exit) ≡ run step last4 (now (t .entry)) ⌝ }
+{
     narrow::fh16(t, 8, 11, false);
     narrow::fh16(t, 12, 15, true);
     narrow::fh16(t, 9, 10, false);
@@ -133,10 +94,10 @@ fn dct_level4(t: &mut [i16; 32])
     narrow::fh16(t, 7, 8, false);
 }
 
-// Steps 2 to 7 for n = 5, where every number on the way is of 16 bits.
-fn dct_level5(t: &mut [i16; 32])
-    requires { ⌜ Ok step Fine16 (tail 5) (now t) ⌝ }
-    ensures { λ _. ⌜ now (t .exit) ≡ run step (tail 5) (now (t .entry)) ⌝ }
+// Step 2 for n = 5.
+pub fn level5_turns(t: &mut [i16; 32])
+    requires { ⌜ Ok step Fine16 turns5 (now t) ⌝ }
+    ensures { λ _. ⌜ now (t .exit) ≡ run step turns5 (now (t .entry)) ⌝ }
 {
     narrow::fb16(t, 16, 31, 804, 16364, false);
     narrow::fb16(t, 17, 30, 12140, 11003, false);
@@ -146,6 +107,13 @@ fn dct_level5(t: &mut [i16; 32])
     narrow::fb16(t, 21, 26, 14053, 8423, false);
     narrow::fb16(t, 22, 25, 9760, 13160, false);
     narrow::fb16(t, 23, 24, 16207, 2404, false);
+}
+
+// Steps 3 and 4a for n = 5.
+pub fn level5_first(t: &mut [i16; 32])
+    requires { ⌜ Ok step Fine16 first5 (now t) ⌝ }
+    ensures { λ _. ⌜ now (t .exit) ≡ run step first5 (now (t .entry)) ⌝ }
+{
     narrow::fh16(t, 16, 17, false);
     narrow::fh16(t, 18, 19, true);
     narrow::fh16(t, 20, 21, false);
@@ -158,6 +126,13 @@ fn dct_level5(t: &mut [i16; 32])
     narrow::fb16(t, 22, 25, -9102, -13623, true);
     narrow::fb16(t, 26, 21, 13623, 9102, true);
     narrow::fb16(t, 18, 29, -16069, -3196, true);
+}
+
+// Steps 4b and 5a for n = 5.
+pub fn level5_next(t: &mut [i16; 32])
+    requires { ⌜ Ok step Fine16 next5 (now t) ⌝ }
+    ensures { λ _. ⌜ now (t .exit) ≡ run step next5 (now (t .entry)) ⌝ }
+{
     narrow::fh16(t, 16, 19, false);
     narrow::fh16(t, 20, 23, true);
     narrow::fh16(t, 24, 27, false);
@@ -170,6 +145,13 @@ fn dct_level5(t: &mut [i16; 32])
     narrow::fb16(t, 21, 26, -15137, -6270, true);
     narrow::fb16(t, 28, 19, 6270, 15137, true);
     narrow::fb16(t, 20, 27, -15137, -6270, true);
+}
+
+// Steps 5b and 6 for n = 5.
+pub fn level5_last(t: &mut [i16; 32])
+    requires { ⌜ Ok step Fine16 last5 (now t) ⌝ }
+    ensures { λ _. ⌜ now (t .exit) ≡ run step last5 (now (t .entry)) ⌝ }
+{
     narrow::fh16(t, 16, 23, false);
     narrow::fh16(t, 24, 31, true);
     narrow::fh16(t, 17, 22, false);
@@ -182,6 +164,13 @@ fn dct_level5(t: &mut [i16; 32])
     narrow::fb16(t, 26, 21, 11585, 11585, true);
     narrow::fb16(t, 25, 22, 11585, 11585, true);
     narrow::fb16(t, 24, 23, 11585, 11585, true);
+}
+
+// Step 7 for n = 5.
+pub fn level5_sums(t: &mut [i16; 32])
+    requires { ⌜ Ok step Fine16 sums5 (now t) ⌝ }
+    ensures { λ _. ⌜ now (t .exit) ≡ run step sums5 (now (t .entry)) ⌝ }
+{
     narrow::fh16(t, 0, 31, false);
     narrow::fh16(t, 1, 30, false);
     narrow::fh16(t, 2, 29, false);
@@ -198,54 +187,4 @@ fn dct_level5(t: &mut [i16; 32])
     narrow::fh16(t, 13, 18, false);
     narrow::fh16(t, 14, 17, false);
     narrow::fh16(t, 15, 16, false);
-}
-
-// The inverse DCT of 4 numbers, where every number on the way is of 16 bits: the permutation, B(0, 1, 16, 1), then steps 2 to 7 for each
-// size up to this.
-pub fn dct4(t: &mut [i16; 32])
-    requires { ⌜ (4 ≤ length (now t)) × (kept 4 (dctRow 2) (now t) ≡ true) ⌝ }
-    ensures { λ _. ⌜ now (t .exit) ≡ dct 2 (now (t .entry)) ⌝ }
-{
-    permute4(t);
-    narrow::fb16(t, 0, 1, 11585, 11585, true);
-    dct_level2(t);
-}
-
-// The inverse DCT of 8 numbers, where every number on the way is of 16 bits: the permutation, B(0, 1, 16, 1), then steps 2 to 7 for each
-// size up to this.
-pub fn dct8(t: &mut [i16; 32])
-    requires { ⌜ (8 ≤ length (now t)) × (kept 8 (dctRow 3) (now t) ≡ true) ⌝ }
-    ensures { λ _. ⌜ now (t .exit) ≡ dct 3 (now (t .entry)) ⌝ }
-{
-    permute8(t);
-    narrow::fb16(t, 0, 1, 11585, 11585, true);
-    dct_level2(t);
-    dct_level3(t);
-}
-
-// The inverse DCT of 16 numbers, where every number on the way is of 16 bits: the permutation, B(0, 1, 16, 1), then steps 2 to 7 for each
-// size up to this.
-pub fn dct16(t: &mut [i16; 32])
-    requires { ⌜ (16 ≤ length (now t)) × (kept 16 (dctRow 4) (now t) ≡ true) ⌝ }
-    ensures { λ _. ⌜ now (t .exit) ≡ dct 4 (now (t .entry)) ⌝ }
-{
-    permute16(t);
-    narrow::fb16(t, 0, 1, 11585, 11585, true);
-    dct_level2(t);
-    dct_level3(t);
-    dct_level4(t);
-}
-
-// The inverse DCT of 32 numbers, where every number on the way is of 16 bits: the permutation, B(0, 1, 16, 1), then steps 2 to 7 for each
-// size up to this.
-pub fn dct32(t: &mut [i16; 32])
-    requires { ⌜ (32 ≤ length (now t)) × (kept 32 (dctRow 5) (now t) ≡ true) ⌝ }
-    ensures { λ _. ⌜ now (t .exit) ≡ dct 5 (now (t .entry)) ⌝ }
-{
-    permute32(t);
-    narrow::fb16(t, 0, 1, 11585, 11585, true);
-    dct_level2(t);
-    dct_level3(t);
-    dct_level4(t);
-    dct_level5(t);
 }

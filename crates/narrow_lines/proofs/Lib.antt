@@ -1,5 +1,5 @@
+pub mod Tiles
+mod Strips
+mod Rounding
 mod Absolute
-pub mod Places
-pub mod Strips
-mod Spin
-pub mod About
+mod Orders

@@ -1,18 +1,21 @@
 // The rows and the columns of a block of 16-bit numbers that stays within them: no test on the way, and eight lines side by side, which the
-// compiler makes one line of eight-fold numbers.
+// compiler makes one line of eight-fold numbers. The block stands by strips of eight columns: eight columns are then loads side by side, and eight rows
+// loads eight numbers apart, for which there are instructions on both processors.
 ghost use mathlib.Core.Path.{_≡_};
 ghost use mathlib.Core.Bool.{true, false};
 ghost use Prim.Native.Nat.{ℕ, _+_, _*_, _≤_, _<_};
 ghost use lib.IntN.{pos, natAbs};
-ghost use lib.ListN.{length, getD, replicate};
-ghost use Rattle.whole.specs.Lists.{fill};
-ghost use Rattle.answers.specs.Sizes.{side};
-ghost use Rattle.narrow.specs.Kept.{short};
+ghost use lib.ListN.{length, getD, set, replicate};
+ghost use Rattle.whole.specs.Lists.{tabulate, fill};
+ghost use Rattle.whole.specs.Inner.{times};
+ghost use Rattle.whole.specs.Round.{Round2};
+ghost use Rattle.answers.specs.Sizes.{side, area};
 ghost use Rattle.blocks.specs.Block.{row, column, rows, columns};
 ghost use Rattle.blocks.specs.Inner.{setLine};
-ghost use Rattle.blocks.specs.Inverse.{Dct, Adst, apply, lossy};
+ghost use Rattle.blocks.specs.Inverse.{Dct, Adst, apply, lossy, rounding};
+ghost use Rattle.narrow.specs.Tile.{place, raster};
 ghost use Rattle.weights.specs.Inner.{total, Keeps};
-ghost use Rattle.narrow_lines.specs.Inner.{strip, StripKeeps, Tail, Mixed, About};
+ghost use Rattle.narrow_lines.specs.Inner.{start, gap, spot, lineOf, Whole, Holds, strip, first, StripKeeps, Dead};
 
 // A block of the greatest size, all zeros.
 pub fn zeros() -> [i16; 1024]
@@ -21,220 +24,315 @@ pub fn zeros() -> [i16; 1024]
     [0i16; 1024]
 }
 
-// The n numbers of s at start, start + step, .. into the first places of t. As numbers of s they are of 16 bits.
-pub fn load(t: &mut [i16; 32], s: &[i16; 1024], start: usize, step: usize, n: usize)
-    requires { ⌜ (n ≤ 32) × ((k : ℕ) → k < n → start + k * step < 1024) ⌝ }
-    ensures made { λ _. ⌜ now (t .exit) ≡ fill n (λ k. getD (now (s .entry)) (start + k * step) (pos 0)) (now (t .entry)) ⌝ }
-    ensures told { λ _. ⌜ ((k : ℕ) → k < n → short (getD (now (s .entry)) (start + k * step) (pos 0)) ≡ true) ⌝ }
+// Where row i, column j of a block stands.
+fn place(n0: usize, i: usize, j: usize) -> usize
+    requires { ⌜ (n0 ≤ 32) × (i < n0) × (j < n0) ⌝ }
+    ensures { λ r. ⌜ r ≡ place n0 i j ⌝ }
 {
-    for k in 0..n {
-        t[k] = s[start + k * step];
+    8 * n0 * (j / 8) + 8 * i + j % 8
+}
+
+// Where number k of line i stands: of a column, or of a row.
+fn spot(n0: usize, i: usize, k: usize, down: bool) -> usize
+    requires { ⌜ (n0 ≤ 32) × (i < n0) × (k < n0) ⌝ }
+    ensures { λ r. ⌜ r ≡ spot «down» n0 i k ⌝ }
+{
+    if down {
+        return place(n0, k, i);
+    }
+    place(n0, i, k)
+}
+
+// Line i into the first places of t. Where n0 and `down` are literals, the loop unrolls and every index folds.
+fn load(t: &mut [i16; 32], z: &[i16; 1024], i: usize, n0: usize, down: bool)
+    requires { ⌜ Whole n0 × (i < n0) × (now t ≡ replicate 32 (pos 0)) ⌝ }
+    ensures { λ _. ⌜ now (t .exit) ≡ lineOf «down» n0 i (raster n0 (now (z .entry))) ⌝ }
+{
+    for k in 0..n0 {
+        t[k] = z[spot(n0, i, k, down)];
     }
 }
 
-// The first n numbers of t to these places of s.
-pub fn store(s: &mut [i16; 1024], t: &[i16; 32], start: usize, step: usize, n: usize)
-    requires { ⌜ (n ≤ 32) × ((k : ℕ) → k < n → start + k * step < 1024) ⌝ }
-    ensures { λ _. ⌜ now (s .exit) ≡ setLine (λ z. z) start step n (now (t .entry)) (now (s .entry)) ⌝ }
+// And back.
+fn store(z: &mut [i16; 1024], t: &[i16; 32], i: usize, n0: usize, down: bool)
+    requires { ⌜ Whole n0 × (i < n0) × (length (now z) ≡ 1024) ⌝ }
+    ensures { λ _. ⌜ Holds n0 (setLine (λ z. z) (start «down» n0 i) (gap «down» n0) n0 (now (t .entry)) (raster n0 (now (z .entry)))) (now (z .exit)) ⌝ }
 {
-    for k in 0..n {
-        s[start + k * step] = t[k];
+    for k in 0..n0 {
+        z[spot(n0, i, k, down)] = t[k];
     }
 }
 
-// Numbers for a block of 16 by 16 that is being turned about.
-fn zeros256() -> [i16; 256]
-    ensures { λ r. ⌜ r ≡ replicate 256 (pos 0) ⌝ }
-{
-    [0i16; 256]
-}
-
-// The first `half` numbers and the next, in turns: where the work is turned about by such steps, the compiler takes eight numbers at a time.
-fn mix(to: &mut [i16], from: &[i16], half: usize)
-    requires { ⌜ (half ≤ 512) × (2 * half ≤ length (now to)) × (2 * half ≤ length (now from)) ⌝ }
-    ensures { λ _. ⌜ Mixed half half (now (from .entry)) (now (to .entry)) (now (to .exit)) ⌝ }
-{
-    for k in 0..half {
-        to[2 * k] = from[k];
-        to[2 * k + 1] = from[half + k];
-    }
-}
-
-// A block of 8 by 8 turned about in its place: 64 is 2^6, and 3 steps are half of the way round. Arrays of that size stay in registers.
-pub fn turn8(z: &mut [i16; 1024])
-    requires { ⌜ length (now z) ≡ 1024 ⌝ }
-    ensures { λ _. ⌜ About 8 (now (z .entry)) (now (z .entry)) (now (z .exit)) ⌝ }
-{
-    let mut one = zeros256();
-    let mut two = zeros256();
-    mix(&mut one, z, 32);
-    mix(&mut two, &one, 32);
-    mix(z, &two, 32);
-}
-
-// A block of 16 by 16 turned about in its place: 4 steps of 8.
-pub fn turn16(z: &mut [i16; 1024])
-    requires { ⌜ length (now z) ≡ 1024 ⌝ }
-    ensures { λ _. ⌜ About 16 (now (z .entry)) (now (z .entry)) (now (z .exit)) ⌝ }
-{
-    let mut other = zeros256();
-    mix(&mut other, z, 128);
-    mix(z, &other, 128);
-    mix(&mut other, z, 128);
-    mix(z, &other, 128);
-}
-
-// A block of 32 by 32 turned about: 5 steps of 10.
-pub fn turn32(to: &mut [i16; 1024], from: &mut [i16; 1024])
-    requires { ⌜ (length (now to) ≡ 1024) × (length (now from) ≡ 1024) ⌝ }
-    ensures made { λ _. ⌜ About 32 (now (from .entry)) (now (to .entry)) (now (to .exit)) ⌝ }
-    ensures kept { λ _. ⌜ Tail (32 * 32) (now (from .entry)) (now (from .exit)) ⌝ }
-{
-    mix(to, from, 512);
-    mix(from, to, 512);
-    mix(to, from, 512);
-    mix(from, to, 512);
-    mix(to, from, 512);
-}
-
-// The eight columns of a block of 8 by 8 through the DCT.
-fn dct8(z: &mut [i16; 1024], at: usize)
-    requires { ⌜ (at + 8 ≤ 8) × StripKeeps Dct 3 at (now z) ⌝ }
-    ensures { λ _. ⌜ now (z .exit) ≡ strip Dct 3 at 8 (now (z .entry)) ⌝ }
+// The eight rows of strip q through each transform. The line is 8 q + j here and not in the caller: so the compiler sees the strip.
+fn dct8_rows(z: &mut [i16; 1024], q: usize)
+    requires { ⌜ (8 * q + 8 ≤ 8) × (length (now z) ≡ 1024) × StripKeeps false Dct 3 (8 * q) (raster 8 (now z)) ⌝ }
+    ensures { λ _. ⌜ Holds 8 (strip false Dct 3 (8 * q) 8 (raster 8 (now (z .entry)))) (now (z .exit)) ⌝ }
 {
     for j in 0..8usize {
         let mut t = [0i16; 32];
-        load(&mut t, z, at + j, 8, 8);
-        narrow_dct::dct8(&mut t);
-        store(z, &t, at + j, 8, 8);
+        load(&mut t, z, 8 * q + j, 8, false);
+        narrow_dct::permute(&mut t, 3, 2, 4);
+        narrow_dct::level2(&mut t);
+        narrow_dct::level3(&mut t);
+        store(z, &t, 8 * q + j, 8, false);
     }
 }
 
-// Eight columns of a block of 16 by 16, from `at` on.
-fn dct16(z: &mut [i16; 1024], at: usize)
-    requires { ⌜ (at + 8 ≤ 16) × StripKeeps Dct 4 at (now z) ⌝ }
-    ensures { λ _. ⌜ now (z .exit) ≡ strip Dct 4 at 8 (now (z .entry)) ⌝ }
+fn dct16_rows(z: &mut [i16; 1024], q: usize)
+    requires { ⌜ (8 * q + 8 ≤ 16) × (length (now z) ≡ 1024) × StripKeeps false Dct 4 (8 * q) (raster 16 (now z)) ⌝ }
+    ensures { λ _. ⌜ Holds 16 (strip false Dct 4 (8 * q) 8 (raster 16 (now (z .entry)))) (now (z .exit)) ⌝ }
 {
     for j in 0..8usize {
         let mut t = [0i16; 32];
-        load(&mut t, z, at + j, 16, 16);
-        narrow_dct::dct16(&mut t);
-        store(z, &t, at + j, 16, 16);
+        load(&mut t, z, 8 * q + j, 16, false);
+        narrow_dct::permute(&mut t, 4, 4, 4);
+        narrow_dct::level2(&mut t);
+        narrow_dct::level3(&mut t);
+        narrow_dct::level4_first(&mut t);
+        narrow_dct::level4_last(&mut t);
+        store(z, &t, 8 * q + j, 16, false);
     }
 }
 
-// Eight columns of a block of 32 by 32, from `at` on.
-fn dct32(z: &mut [i16; 1024], at: usize)
-    requires { ⌜ (at + 8 ≤ 32) × StripKeeps Dct 5 at (now z) ⌝ }
-    ensures { λ _. ⌜ now (z .exit) ≡ strip Dct 5 at 8 (now (z .entry)) ⌝ }
+fn dct32_rows(z: &mut [i16; 1024], q: usize)
+    requires { ⌜ (8 * q + 8 ≤ 32) × (length (now z) ≡ 1024) × StripKeeps false Dct 5 (8 * q) (raster 32 (now z)) ⌝ }
+    ensures { λ _. ⌜ Holds 32 (strip false Dct 5 (8 * q) 8 (raster 32 (now (z .entry)))) (now (z .exit)) ⌝ }
 {
     for j in 0..8usize {
         let mut t = [0i16; 32];
-        load(&mut t, z, at + j, 32, 32);
-        narrow_dct::dct32(&mut t);
-        store(z, &t, at + j, 32, 32);
+        load(&mut t, z, 8 * q + j, 32, false);
+        narrow_dct::permute(&mut t, 5, 4, 8);
+        narrow_dct::level2(&mut t);
+        narrow_dct::level3(&mut t);
+        narrow_dct::level4_first(&mut t);
+        narrow_dct::level4_last(&mut t);
+        narrow_dct::level5_turns(&mut t);
+        narrow_dct::level5_first(&mut t);
+        narrow_dct::level5_next(&mut t);
+        narrow_dct::level5_last(&mut t);
+        narrow_dct::level5_sums(&mut t);
+        store(z, &t, 8 * q + j, 32, false);
     }
 }
 
-// The eight columns of a block of 8 by 8 through the ADST.
-fn adst8(z: &mut [i16; 1024], at: usize)
-    requires { ⌜ (at + 8 ≤ 8) × StripKeeps Adst 3 at (now z) ⌝ }
-    ensures { λ _. ⌜ now (z .exit) ≡ strip Adst 3 at 8 (now (z .entry)) ⌝ }
+fn adst8_rows(z: &mut [i16; 1024], q: usize)
+    requires { ⌜ (8 * q + 8 ≤ 8) × (length (now z) ≡ 1024) × StripKeeps false Adst 3 (8 * q) (raster 8 (now z)) ⌝ }
+    ensures { λ _. ⌜ Holds 8 (strip false Adst 3 (8 * q) 8 (raster 8 (now (z .entry)))) (now (z .exit)) ⌝ }
 {
     for j in 0..8usize {
         let mut t = [0i16; 32];
-        load(&mut t, z, at + j, 8, 8);
-        narrow_adst::adst8(&mut t);
-        store(z, &t, at + j, 8, 8);
+        let mut s = [0i32; 16];
+        load(&mut t, z, 8 * q + j, 8, false);
+        narrow_adst::permute(&mut t, 3, 2, 4, false);
+        narrow_adst::adst8_first(&mut t, &mut s);
+        narrow_adst::adst8_next(&mut t, &mut s);
+        narrow_adst::adst8_last(&mut t);
+        store(z, &t, 8 * q + j, 8, false);
     }
 }
 
-// Eight columns of a block of 16 by 16, from `at` on, through the ADST.
-fn adst16(z: &mut [i16; 1024], at: usize)
-    requires { ⌜ (at + 8 ≤ 16) × StripKeeps Adst 4 at (now z) ⌝ }
-    ensures { λ _. ⌜ now (z .exit) ≡ strip Adst 4 at 8 (now (z .entry)) ⌝ }
+fn adst16_rows(z: &mut [i16; 1024], q: usize)
+    requires { ⌜ (8 * q + 8 ≤ 16) × (length (now z) ≡ 1024) × StripKeeps false Adst 4 (8 * q) (raster 16 (now z)) ⌝ }
+    ensures { λ _. ⌜ Holds 16 (strip false Adst 4 (8 * q) 8 (raster 16 (now (z .entry)))) (now (z .exit)) ⌝ }
 {
     for j in 0..8usize {
         let mut t = [0i16; 32];
-        load(&mut t, z, at + j, 16, 16);
-        narrow_adst::adst16(&mut t);
-        store(z, &t, at + j, 16, 16);
+        let mut s = [0i32; 16];
+        load(&mut t, z, 8 * q + j, 16, false);
+        narrow_adst::permute(&mut t, 4, 4, 4, false);
+        narrow_adst::adst16_turns(&t, &mut s);
+        narrow_adst::adst16_first(&mut t, &s);
+        narrow_adst::adst16_next(&mut t, &mut s);
+        narrow_adst::adst16_more(&mut t, &mut s);
+        narrow_adst::adst16_last(&mut t);
+        store(z, &t, 8 * q + j, 16, false);
     }
 }
 
-// Eight columns of a block, by size and transform.
-fn strip(z: &mut [i16; 1024], at: usize, n: u32, use_dct: bool)
-    requires { ⌜ (3 ≤ n) × (n ≤ 5) × («use_dct» ≡ false → n ≤ 4) × (at + 8 ≤ side n) × StripKeeps (lossy «use_dct») n at (now z) ⌝ }
-    ensures { λ _. ⌜ now (z .exit) ≡ strip (lossy «use_dct») n at 8 (now (z .entry)) ⌝ }
+// The eight columns of strip q through each transform. The line is 8 q + j here and not in the caller: so the compiler sees the strip.
+fn dct8_columns(z: &mut [i16; 1024], q: usize)
+    requires { ⌜ (8 * q + 8 ≤ 8) × (length (now z) ≡ 1024) × StripKeeps true Dct 3 (8 * q) (raster 8 (now z)) ⌝ }
+    ensures { λ _. ⌜ Holds 8 (strip true Dct 3 (8 * q) 8 (raster 8 (now (z .entry)))) (now (z .exit)) ⌝ }
+{
+    for j in 0..8usize {
+        let mut t = [0i16; 32];
+        load(&mut t, z, 8 * q + j, 8, true);
+        narrow_dct::permute(&mut t, 3, 2, 4);
+        narrow_dct::level2(&mut t);
+        narrow_dct::level3(&mut t);
+        store(z, &t, 8 * q + j, 8, true);
+    }
+}
+
+fn dct16_columns(z: &mut [i16; 1024], q: usize)
+    requires { ⌜ (8 * q + 8 ≤ 16) × (length (now z) ≡ 1024) × StripKeeps true Dct 4 (8 * q) (raster 16 (now z)) ⌝ }
+    ensures { λ _. ⌜ Holds 16 (strip true Dct 4 (8 * q) 8 (raster 16 (now (z .entry)))) (now (z .exit)) ⌝ }
+{
+    for j in 0..8usize {
+        let mut t = [0i16; 32];
+        load(&mut t, z, 8 * q + j, 16, true);
+        narrow_dct::permute(&mut t, 4, 4, 4);
+        narrow_dct::level2(&mut t);
+        narrow_dct::level3(&mut t);
+        narrow_dct::level4_first(&mut t);
+        narrow_dct::level4_last(&mut t);
+        store(z, &t, 8 * q + j, 16, true);
+    }
+}
+
+fn dct32_columns(z: &mut [i16; 1024], q: usize)
+    requires { ⌜ (8 * q + 8 ≤ 32) × (length (now z) ≡ 1024) × StripKeeps true Dct 5 (8 * q) (raster 32 (now z)) ⌝ }
+    ensures { λ _. ⌜ Holds 32 (strip true Dct 5 (8 * q) 8 (raster 32 (now (z .entry)))) (now (z .exit)) ⌝ }
+{
+    for j in 0..8usize {
+        let mut t = [0i16; 32];
+        load(&mut t, z, 8 * q + j, 32, true);
+        narrow_dct::permute(&mut t, 5, 4, 8);
+        narrow_dct::level2(&mut t);
+        narrow_dct::level3(&mut t);
+        narrow_dct::level4_first(&mut t);
+        narrow_dct::level4_last(&mut t);
+        narrow_dct::level5_turns(&mut t);
+        narrow_dct::level5_first(&mut t);
+        narrow_dct::level5_next(&mut t);
+        narrow_dct::level5_last(&mut t);
+        narrow_dct::level5_sums(&mut t);
+        store(z, &t, 8 * q + j, 32, true);
+    }
+}
+
+fn adst8_columns(z: &mut [i16; 1024], q: usize)
+    requires { ⌜ (8 * q + 8 ≤ 8) × (length (now z) ≡ 1024) × StripKeeps true Adst 3 (8 * q) (raster 8 (now z)) ⌝ }
+    ensures { λ _. ⌜ Holds 8 (strip true Adst 3 (8 * q) 8 (raster 8 (now (z .entry)))) (now (z .exit)) ⌝ }
+{
+    for j in 0..8usize {
+        let mut t = [0i16; 32];
+        let mut s = [0i32; 16];
+        load(&mut t, z, 8 * q + j, 8, true);
+        narrow_adst::permute(&mut t, 3, 2, 4, false);
+        narrow_adst::adst8_first(&mut t, &mut s);
+        narrow_adst::adst8_next(&mut t, &mut s);
+        narrow_adst::adst8_last(&mut t);
+        store(z, &t, 8 * q + j, 8, true);
+    }
+}
+
+fn adst16_columns(z: &mut [i16; 1024], q: usize)
+    requires { ⌜ (8 * q + 8 ≤ 16) × (length (now z) ≡ 1024) × StripKeeps true Adst 4 (8 * q) (raster 16 (now z)) ⌝ }
+    ensures { λ _. ⌜ Holds 16 (strip true Adst 4 (8 * q) 8 (raster 16 (now (z .entry)))) (now (z .exit)) ⌝ }
+{
+    for j in 0..8usize {
+        let mut t = [0i16; 32];
+        let mut s = [0i32; 16];
+        load(&mut t, z, 8 * q + j, 16, true);
+        narrow_adst::permute(&mut t, 4, 4, 4, false);
+        narrow_adst::adst16_turns(&t, &mut s);
+        narrow_adst::adst16_first(&mut t, &s);
+        narrow_adst::adst16_next(&mut t, &mut s);
+        narrow_adst::adst16_more(&mut t, &mut s);
+        narrow_adst::adst16_last(&mut t);
+        store(z, &t, 8 * q + j, 16, true);
+    }
+}
+
+// Eight rows, by size and transform.
+fn eight_rows(z: &mut [i16; 1024], q: usize, n: u32, use_dct: bool)
+    requires { ⌜ (3 ≤ n) × (n ≤ 5) × («use_dct» ≡ false → n ≤ 4) × (8 * q + 8 ≤ side n) × (length (now z) ≡ 1024) × StripKeeps false (lossy «use_dct») n (8 * q) (raster (side n) (now z)) ⌝ }
+    ensures { λ _. ⌜ Holds (side n) (strip false (lossy «use_dct») n (8 * q) 8 (raster (side n) (now (z .entry)))) (now (z .exit)) ⌝ }
 {
     if use_dct {
         if n == 3 {
-            dct8(z, at);
+            dct8_rows(z, q);
         } else if n == 4 {
-            dct16(z, at);
+            dct16_rows(z, q);
         } else {
-            dct32(z, at);
+            dct32_rows(z, q);
         }
     } else if n == 3 {
-        adst8(z, at);
+        adst8_rows(z, q);
     } else {
-        adst16(z, at);
+        adst16_rows(z, q);
     }
+}
+
+// Eight columns, by size and transform.
+fn eight_columns(z: &mut [i16; 1024], q: usize, n: u32, use_dct: bool)
+    requires { ⌜ (3 ≤ n) × (n ≤ 5) × («use_dct» ≡ false → n ≤ 4) × (8 * q + 8 ≤ side n) × (length (now z) ≡ 1024) × StripKeeps true (lossy «use_dct») n (8 * q) (raster (side n) (now z)) ⌝ }
+    ensures { λ _. ⌜ Holds (side n) (strip true (lossy «use_dct») n (8 * q) 8 (raster (side n) (now (z .entry)))) (now (z .exit)) ⌝ }
+{
+    if use_dct {
+        if n == 3 {
+            dct8_columns(z, q);
+        } else if n == 4 {
+            dct16_columns(z, q);
+        } else {
+            dct32_columns(z, q);
+        }
+    } else if n == 3 {
+        adst8_columns(z, q);
+    } else {
+        adst16_columns(z, q);
+    }
+}
+
+// Eight lines, rows or columns.
+fn eight(z: &mut [i16; 1024], q: usize, n: u32, use_dct: bool, down: bool)
+    requires { ⌜ (3 ≤ n) × (n ≤ 5) × («use_dct» ≡ false → n ≤ 4) × (8 * q + 8 ≤ side n) × (length (now z) ≡ 1024) × StripKeeps «down» (lossy «use_dct») n (8 * q) (raster (side n) (now z)) ⌝ }
+    ensures { λ _. ⌜ Holds (side n) (strip «down» (lossy «use_dct») n (8 * q) 8 (raster (side n) (now (z .entry)))) (now (z .exit)) ⌝ }
+{
+    if down {
+        eight_columns(z, q, n, use_dct);
+    } else {
+        eight_rows(z, q, n, use_dct);
+    }
+}
+
+// The lines of the first `strips` strips of eight.
+fn lines(z: &mut [i16; 1024], n: u32, use_dct: bool, strips: usize, down: bool)
+    requires { ⌜ (3 ≤ n) × (n ≤ 5) × («use_dct» ≡ false → n ≤ 4) × (8 * strips ≤ side n) × (length (now z) ≡ 1024) × ((i : ℕ) → i < 8 * strips → Keeps (lossy «use_dct») n (lineOf «down» (side n) i (raster (side n) (now z)))) ⌝ }
+    ensures { λ _. ⌜ Holds (side n) (first «down» (lossy «use_dct») n (8 * strips) (raster (side n) (now (z .entry)))) (now (z .exit)) ⌝ }
+{
+    for q in 0..strips {
+        eight(z, q, n, use_dct, down);
+    }
+}
+
+// All rows of a block; those past `strips` strips of eight are zeros, and stay so.
+pub fn rows(z: &mut [i16; 1024], n: u32, use_dct: bool, strips: usize)
+    requires { ⌜ (3 ≤ n) × (n ≤ 5) × («use_dct» ≡ false → n ≤ 4) × (length (now z) ≡ 1024) × (8 * strips ≤ side n) × ((i : ℕ) → i < side n → Keeps (lossy «use_dct») n (row (side n) i (raster (side n) (now z)))) × Dead (8 * strips * side n) (raster (side n) (now z)) ⌝ }
+    ensures { λ _. ⌜ (length (now (z .exit)) ≡ 1024) × (raster (side n) (now (z .exit)) ≡ rows (apply (lossy «use_dct») n) (side n) (raster (side n) (now (z .entry)))) ⌝ }
+{
+    lines(z, n, use_dct, strips, false);
 }
 
 // All columns of a block, not rounded.
 pub fn columns(z: &mut [i16; 1024], n: u32, use_dct: bool)
-    requires { ⌜ (3 ≤ n) × (n ≤ 5) × («use_dct» ≡ false → n ≤ 4) × (length (now z) ≡ 1024) × ((j : ℕ) → j < side n → Keeps (lossy «use_dct») n (column (side n) j (now z))) ⌝ }
-    ensures { λ _. ⌜ now (z .exit) ≡ columns (apply (lossy «use_dct») n) (λ z. z) (side n) (now (z .entry)) ⌝ }
+    requires { ⌜ (3 ≤ n) × (n ≤ 5) × («use_dct» ≡ false → n ≤ 4) × (length (now z) ≡ 1024) × ((j : ℕ) → j < side n → Keeps (lossy «use_dct») n (column (side n) j (raster (side n) (now z)))) ⌝ }
+    ensures { λ _. ⌜ (length (now (z .exit)) ≡ 1024) × (raster (side n) (now (z .exit)) ≡ columns (apply (lossy «use_dct») n) (λ z. z) (side n) (raster (side n) (now (z .entry)))) ⌝ }
 {
-    let n0 = answers::side(n);
-    for q in 0..n0 / 8 {
-        strip(z, 8 * q, n, use_dct);
+    let strips = answers::side(n) / 8;
+    lines(z, n, use_dct, strips, true);
+}
+
+// Round2 by two shifts, so that no sum leaves 16 bits.
+fn rounded(x: i16, shift: u32) -> i16
+    requires { ⌜ (5 ≤ «shift») × («shift» ≤ 6) ⌝ }
+    ensures { λ r. ⌜ r ≡ Round2 x «shift» ⌝ }
+{
+    if shift == 5 {
+        return ((x >> 4) + 1) >> 1;
     }
+    ((x >> 5) + 1) >> 1
 }
 
-// The rows of a block of 8 by 8: turned about, they are columns.
-fn rows8(z: &mut [i16; 1024], use_dct: bool)
-    requires { ⌜ (length (now z) ≡ 1024) × ((i : ℕ) → i < side 3 → Keeps (lossy «use_dct») 3 (row (side 3) i (now z))) ⌝ }
-    ensures { λ _. ⌜ now (z .exit) ≡ rows (apply (lossy «use_dct») 3) (side 3) (now (z .entry)) ⌝ }
+// All numbers of a block, rounded.
+pub fn round(z: &mut [i16; 1024], n: u32)
+    requires { ⌜ (3 ≤ n) × (n ≤ 5) × (length (now z) ≡ 1024) ⌝ }
+    ensures { λ _. ⌜ now (z .exit) ≡ fill (area n) (λ k. rounding n false (getD (now (z .entry)) k (pos 0))) (now (z .entry)) ⌝ }
 {
-    turn8(z);
-    columns(z, 3, use_dct);
-    turn8(z);
-}
-
-// Of 16 by 16.
-fn rows16(z: &mut [i16; 1024], use_dct: bool)
-    requires { ⌜ (length (now z) ≡ 1024) × ((i : ℕ) → i < side 4 → Keeps (lossy «use_dct») 4 (row (side 4) i (now z))) ⌝ }
-    ensures { λ _. ⌜ now (z .exit) ≡ rows (apply (lossy «use_dct») 4) (side 4) (now (z .entry)) ⌝ }
-{
-    turn16(z);
-    columns(z, 4, use_dct);
-    turn16(z);
-}
-
-// Of 32 by 32.
-fn rows32(z: &mut [i16; 1024], use_dct: bool)
-    requires { ⌜ («use_dct» ≡ false → 5 ≤ 4) × (length (now z) ≡ 1024) × ((i : ℕ) → i < side 5 → Keeps (lossy «use_dct») 5 (row (side 5) i (now z))) ⌝ }
-    ensures { λ _. ⌜ now (z .exit) ≡ rows (apply (lossy «use_dct») 5) (side 5) (now (z .entry)) ⌝ }
-{
-    let mut other = zeros();
-    turn32(&mut other, z);
-    columns(&mut other, 5, use_dct);
-    turn32(z, &mut other);
-}
-
-// All rows of a block.
-pub fn rows(z: &mut [i16; 1024], n: u32, use_dct: bool)
-    requires { ⌜ (3 ≤ n) × (n ≤ 5) × («use_dct» ≡ false → n ≤ 4) × (length (now z) ≡ 1024) × ((i : ℕ) → i < side n → Keeps (lossy «use_dct») n (row (side n) i (now z))) ⌝ }
-    ensures { λ _. ⌜ now (z .exit) ≡ rows (apply (lossy «use_dct») n) (side n) (now (z .entry)) ⌝ }
-{
-    if n == 3 {
-        rows8(z, use_dct);
-    } else if n == 4 {
-        rows16(z, use_dct);
-    } else {
-        rows32(z, use_dct);
+    let shift = blocks::rounding_bits(n);
+    for k in 0..answers::area(n) {
+        z[k] = rounded(z[k], shift);
     }
 }
 
@@ -259,4 +357,40 @@ pub fn total(z: &[i16; 1024], count: usize) -> u32
         all = all + magnitude(z[k]);
     }
     all
+}
+
+// Eight numbers, in their order.
+fn move_eight(to: &mut [i16; 1024], at: usize, from: &[i16; 1024], start: usize)
+    requires { ⌜ (at + 8 ≤ 1024) × (start + 8 ≤ 1024) ⌝ }
+    ensures { λ _. ⌜ now (to .exit) ≡ times 8 (λ c y. set y (at + c) (getD (now (from .entry)) (start + c) (pos 0))) (now (to .entry)) ⌝ }
+{
+    for c in 0..8usize {
+        to[at + c] = from[start + c];
+    }
+}
+
+// A block that stands row by row in s, by strips of eight columns.
+pub fn to_strips(z: &mut [i16; 1024], s: &[i16; 1024], n: u32)
+    requires { ⌜ (3 ≤ n) × (n ≤ 5) × (length (now z) ≡ 1024) ⌝ }
+    ensures { λ _. ⌜ (length (now (z .exit)) ≡ 1024) × (raster (side n) (now (z .exit)) ≡ tabulate (λ k. getD (now (s .entry)) k (pos 0)) (area n)) ⌝ }
+{
+    let n0 = answers::side(n);
+    for q in 0..n0 / 8 {
+        for i in 0..n0 {
+            move_eight(z, 8 * (n0 * q + i), s, n0 * i + 8 * q);
+        }
+    }
+}
+
+// And back.
+pub fn from_strips(s: &mut [i16; 1024], z: &[i16; 1024], n: u32)
+    requires { ⌜ (3 ≤ n) × (n ≤ 5) ⌝ }
+    ensures { λ _. ⌜ now (s .exit) ≡ fill (area n) (λ k. getD (raster (side n) (now (z .entry))) k (pos 0)) (now (s .entry)) ⌝ }
+{
+    let n0 = answers::side(n);
+    for i in 0..n0 {
+        for q in 0..n0 / 8 {
+            move_eight(s, n0 * i + 8 * q, z, 8 * (n0 * q + i));
+        }
+    }
 }

@@ -1,69 +1,26 @@
-use mathlib.Core.Path.{_≡_, sym}
-use Prim.Native.Nat.{_+_, _*_, _/_, _-_, _≤_}
-use native.Mathlib.Nat.{mul-le-mul}
+-- `narrow_lines::columns` meets its contract.
+use mathlib.Core.Path.{_≡_, ap, _∙_}
+use Prim.Native.Nat.{ℕ, _*_, _/_}
 use native.Mathlib.Omega.{arith}
 use borrow.Author.Needs.{needs}
 use Rattle.answers.specs.Sizes.{side}
 use Rattle.blocks.specs.Inverse.{lossy}
-use Rattle.blocks.proofs.Inverse.{side-most}
-use Rattle.whole.proofs.Loops.{times-none}
-use Rattle.narrow_lines.proofs.Strips.{Columns, eights, columns-keep, columns-next, columns-done}
+use Rattle.narrow_lines.proofs.Strips.{all-eights, columns-done}
 use Rattle.narrow_lines.proofs.columns.Statement.{statement}
 use Rattle.narrow_lines.proofs.columns.Tie as tie
 
-abbrev Inv-loop : tie.InvT-loop
-Inv-loop z₀ n use-dct n0 q₀ q-end z q = (q ≤ q-end) × (z ≡ Columns (lossy use-dct) n (8 * q) z₀)
+lines-requires : tie.Need-lines-requires
+lines-requires c κs =
+    let d = c .before in
+    let s = d .before in
+    let e : 8 * (d .side .result / 8) ≡ side (s .args .n) = ap (λ (m : ℕ). 8 * (m / 8)) (d .side .ensures .0) ∙ all-eights (s .args .n) (s .pre .0) (s .pre .1) in
+    (s .pre .0, s .pre .1, s .pre .2, omega (arith, e), s .pre .3, λ i h. s .pre .4 i (omega (arith, e)))
 
-abbrev μ-loop : tie.MeasureT-loop
-μ-loop z₀ n use-dct n0 q₀ q-end z q = q-end - q
-
--- the strip is within the block
-within : (c : tie.In-loop Inv-loop μ-loop) → 8 * c .before .loop .q + 8 ≤ side (c .before .before .before .args .n)
-within c =
+returns : tie.Need-returns
+returns c =
     let d = c .before .before in
     let s = d .before in
-    omega (arith, eights (s .args .n) (s .pre .0) (s .pre .1), rw (d .side .ensures .0) at (c .loop-test .taken))
-
-strip-requires : tie.Need-strip-requires Inv-loop μ-loop
-strip-requires c κs =
-    let i = c .before in
-    let w = i .before in
-    let s = w .before .before in (
-      s .pre .0,
-      s .pre .1,
-      s .pre .2,
-      within i,
-      columns-keep (lossy (s .args .use-dct)) (s .args .n) (w .loop .q) (s .args .z .now) (w .loop .inv .1) (within i) (s .pre .4),
-    )
-
-loop-again : tie.Need-loop-again Inv-loop μ-loop
-loop-again c =
-    let i = c .before .before in
-    let w = i .before in
-    let s = w .before .before in
-    (omega (arith, i .loop-test .taken), columns-next (lossy (s .args .use-dct)) (s .args .n) (w .loop .q) (s .args .z .now) (w .loop .inv .1) (c .strip .ensures))
-
-returns : tie.Need-returns Inv-loop μ-loop
-returns c =
-    let w = c .before in
-    let d = w .before in
-    let s = d .before in
-    let e = d .side .ensures .0 in
-    let h = side-most (s .args .n) (omega (arith, s .pre .0)) (s .pre .1) in
-    columns-done (lossy (s .args .use-dct)) (s .args .n) (w .loop .q) (s .args .z .now) (w .loop .inv .1) (s .pre .0) (s .pre .1)
-    (rw e at (w .loop .inv .0)) (rw e at (c .loop-test .left)) (rw (s .pre .3) (mul-le-mul h h))
+    (c .lines .ensures .long, columns-done (lossy (s .args .use-dct)) (s .args .n) (s .args .z .now) (s .pre .0) (s .pre .1) (rw (d .side .ensures .0) at (c .lines .ensures)))
 
 pub columns-spec : {M : Type 1} → statement M
-columns-spec =
-    tie.close
-    (tie.spec
-    Inv-loop
-    μ-loop
-    (λ c κs. (omega (arith, c .pre .0), c .pre .1))
-    (λ c. (omega arith, times-none _ _))
-    (λ c. omega (arith, within (c .before), side-most (c .before .before .before .before .args .n) (omega (arith, c .before .before .before .before .pre .0)) (c .before .before .before .before .pre .1)))
-    strip-requires
-    (λ c. search needs)
-    (λ c. search needs)
-    loop-again
-    returns)
+columns-spec = tie.close (tie.spec (λ c κs. (omega (arith, c .pre .0), c .pre .1)) lines-requires returns)
