@@ -7,3 +7,4 @@ pub mod Rules
 pub mod Worse
 pub mod Halves
 pub mod Machine
+pub mod Sixteen

@@ -2,11 +2,12 @@
 use mathlib.Core.Path.{_≡_, refl}
 use mathlib.Core.Bool.{Bool, true, false}
 use Prim.Native.Nat.{ℕ, _-_, _*_, _≤_, _^_}
+use native.Mathlib.Nat as NatL
 use native.Mathlib.Omega.{arith}
 use lib.Dec.{T, eqb}
 use lib.IntN.{ℤ, pos, negsuc, negℤ, natAbs, _-ℤ_, _*ℤ_}
 use lib.Signed.{ltZ, nonNeg}
-use mir.Syntax.{w32, w64}
+use mir.Syntax.{w16, w32, w64}
 use mir.Val.{SFits, Fits, toZ}
 use Rattle.whole.specs.Within.{Within}
 use Rattle.whole.proofs.Signed.{rd, C, loc, _⊗_, minus, fits, value}
@@ -26,6 +27,17 @@ module _ (q : ℤ) (h : badQuantizer q ≡ false) where
 
   pub signed-cast : SFits w64 (rd w32 q)
   signed-cast = rw number (within-sfits {m = QUANT_LIMIT} (omega arith) in-range)
+
+  -- at 16 bits
+  pub number-16 : rd w16 q ≡ q
+  number-16 = back w16 (omega arith) in-range
+
+  pub short-cast : SFits w16 (rd w32 q)
+  short-cast = rw number (within-sfits {m = QUANT_LIMIT} (omega arith) in-range)
+
+  -- its product by a sum
+  pub weight-most : (sum : ℕ) → sum ≤ 2 ^ 24 → sum * natAbs q ≤ 2 ^ 39
+  weight-most sum l = NatL.le-trans (NatL.mul-le-mul l (quantizer q h .most)) (omega arith)
 
   pub plain-cast : T (nonNeg (rd w32 q)) × Fits w64 (natAbs (rd w32 q))
   plain-cast = rw number (let e : T (nonNeg q) = rw (quantizer q h .is) tt in (e, record { fits = omega (arith, quantizer q h .most) }))

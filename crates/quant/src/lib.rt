@@ -37,6 +37,18 @@ fn divided(product: i64, size: u32) -> i64
     product
 }
 
+// The same of a token and a quantizer of 16 bits, where the coefficient is of 16 bits too; the product that is halved needs 32.
+fn coefficient16(token: i16, quantizer: i16, size: u32) -> i16
+    requires { ⌜ natAbs token * natAbs quantizer ≤ 32767 * dqDenom size ⌝ }
+    ensures { λ r. ⌜ r ≡ dequant size quantizer token ⌝ }
+{
+    if size == 3 {
+        let product = (token as i32) * (quantizer as i32);
+        return (product / 2) as i16;
+    }
+    token * quantizer
+}
+
 // The magnitude, doubled at 32 by 32.
 fn widened(coef: i64, size: u32) -> u64
     requires { ⌜ natAbs coef ≤ 2 ^ 31 ⌝ }
@@ -102,6 +114,24 @@ impl DcQuant {
         divided(token * (dc as i64), size)
     }
 
+    // The same where the coefficient is of 16 bits.
+    pub fn dequant16(self, token: i64, size: u32) -> i16
+        requires { ⌜ (badQuantizer (self .0) ≡ false) × (natAbs token ≤ 32767) × (natAbs token * natAbs (self .0) ≤ 32767 * dqDenom size) ⌝ }
+        ensures { λ r. ⌜ r ≡ dequant size (self .0) token ⌝ }
+    {
+        let dc = self.0;
+        coefficient16(token as i16, dc as i16, size)
+    }
+
+    // The products of magnitudes that add up to `sum`, added up.
+    pub fn weight(self, sum: u64) -> u64
+        requires { ⌜ (badQuantizer (self .0) ≡ false) × (sum ≤ 2 ^ 24) ⌝ }
+        ensures { λ r. ⌜ (r ≡ sum * natAbs (self .0)) × (r ≤ 2 ^ 39) ⌝ }
+    {
+        let dc = self.0;
+        sum * (dc as u64)
+    }
+
     // The token of a coefficient under a rule, at most `most` in magnitude.
     pub fn quantize(self, coef: i64, size: u32, most: u64, rule: u32) -> i64
         requires { ⌜ (badQuantizer (self .0) ≡ false) × (natAbs coef ≤ 2 ^ 31) × (most ≤ codeable 12) ⌝ }
@@ -133,6 +163,24 @@ impl AcQuant {
     {
         let ac = self.0;
         divided(token * (ac as i64), size)
+    }
+
+    // The same where the coefficient is of 16 bits.
+    pub fn dequant16(self, token: i64, size: u32) -> i16
+        requires { ⌜ (badQuantizer (self .0) ≡ false) × (natAbs token ≤ 32767) × (natAbs token * natAbs (self .0) ≤ 32767 * dqDenom size) ⌝ }
+        ensures { λ r. ⌜ r ≡ dequant size (self .0) token ⌝ }
+    {
+        let ac = self.0;
+        coefficient16(token as i16, ac as i16, size)
+    }
+
+    // The products of magnitudes that add up to `sum`, added up.
+    pub fn weight(self, sum: u64) -> u64
+        requires { ⌜ (badQuantizer (self .0) ≡ false) × (sum ≤ 2 ^ 24) ⌝ }
+        ensures { λ r. ⌜ (r ≡ sum * natAbs (self .0)) × (r ≤ 2 ^ 39) ⌝ }
+    {
+        let ac = self.0;
+        sum * (ac as u64)
     }
 
     // The token of a coefficient under a rule, at most `most` in magnitude.
