@@ -2,8 +2,9 @@
 use mathlib.Core.Path.{_≡_, sym, ap, _∙_}
 use mathlib.Core.Bool.{Bool, true, false}
 use mathlib.Core.List.{List}
-use Prim.Native.Nat.{ℕ, min, _+_, _-_, _<_, _≤_}
+use Prim.Native.Nat.{ℕ, min, _+_, _-_, _*_, _/_, _%_, _<_, _≤_}
 use native.Mathlib.Decide.{decLt}
+use native.Mathlib.Nat as NatL
 use native.Mathlib.Omega.{arith}
 use lib.Dec.{T}
 use lib.IntN.{ℤ, pos, negℤ, natAbs, _+ℤ_}
@@ -15,6 +16,7 @@ use Rattle.whole.specs.Parts.{P, N}
 use Rattle.whole.specs.Within.{Within}
 use Rattle.whole.proofs.Parts.{apart, abs-parts, sum-parts, neg-P, neg-N, ltZ-true, ltZ-false, nonNeg-parts}
 use Rattle.whole.proofs.Within.{sfits-P, sfits-N}
+use Rattle.narrow.specs.Tile.{place}
 use Rattle.plane.specs.Plane.{clip}
 use Rattle.plane.specs.Inner.{rowAfter}
 use Rattle.plane.proofs.Row.{inside-yes, inside-low, inside-high, row-in, row-out}
@@ -41,7 +43,7 @@ pub clip-is : (s top : ℕ) (r : ℤ) → s ≤ 65535 → top ≤ 65535 → min 
 clip-is s top r hs ht = omega (arith, apart r, apart (pos s +ℤ r), sum-parts (pos s) r)
 
 -- a row of m samples, and then n samples from where it ended
-module _ (top : ℕ) (r q : ℕ → ℤ) (at m n : ℕ) (same : (j : ℕ) → q j ≡ r (m + j)) (samples cur next : List ℕ)
+module _ (top : ℕ) (r q : ℕ → ℤ) (at m n : ℕ) (same : (j : ℕ) → j < n → q j ≡ r (m + j)) (samples cur next : List ℕ)
     (had : (k : ℕ) → getD cur k 0 ≡ rowAfter top r at m samples k) (new : (k : ℕ) → getD next k 0 ≡ rowAfter top q (at + m) n cur k) where
   pub row-join : (k : ℕ) → getD next k 0 ≡ rowAfter top r at (m + n) samples k
   row-join k = go (decLt k at) (decLt k (at + m)) (decLt k (at + m + n))
@@ -57,7 +59,22 @@ module _ (top : ℕ) (r q : ℕ → ℤ) (at m n : ℕ) (same : (j : ℕ) → q 
           let old : getD cur k 0 ≡ getD samples k 0 = had k ∙ row-out top r at samples m k (inside-high at m k (omega arith)) in
           let e : m + (k - (at + m)) ≡ k - at = omega arith in
           new k ∙ row-in top q (at + m) cur n k (inside-yes (at + m) n k (omega arith) c)
-          ∙ rw (old, same (k - (at + m)), e) (sym (row-in top r at samples (m + n) k (inside-yes at (m + n) k (omega arith) (omega arith))))
+          ∙ rw (old, same (k - (at + m)) (omega arith), e) (sym (row-in top r at samples (m + n) k (inside-yes at (m + n) k (omega arith) (omega arith))))
       go (no a) (no b) (no c) =
           new k ∙ row-out top q (at + m) cur n k (inside-high (at + m) n k (omega arith)) ∙ had k ∙ row-out top r at samples m k (inside-high at m k (omega arith))
           ∙ sym (row-out top r at samples (m + n) k (inside-high at (m + n) k (omega arith)))
+
+-- eight columns of a strip stand side by side
+pub place-strip : (n0 i q j : ℕ) → j < 8 → 8 * n0 * q + 8 * i + j ≡ place n0 i (8 * q + j)
+unfolding place
+place-strip n0 i q j h =
+    let e : (8 * q + j) / 8 ≡ q = omega arith in
+    let f : (8 * q + j) % 8 ≡ j = omega arith in
+    rw (e, f)
+
+-- the strips of a block of at most 32 columns end where its places end
+pub strip-end : (n0 i q : ℕ) → i < n0 → 8 * n0 * q + 8 * i + 8 ≤ 8 * n0 * (q + 1)
+strip-end n0 i q l = omega (arith, NatL.mul-add (8 * n0) q 1)
+
+pub strip-most : (n0 q : ℕ) → n0 ≤ 32 → q ≤ 4 → 8 * n0 * q ≤ 1024
+strip-most n0 q h m = NatL.mul-le-mul {n₁ = 8 * n0} {n₂ = 256} (omega arith) m

@@ -2,7 +2,7 @@
 use plane::Plane;
 use plane::cut;
 ghost use mathlib.Core.Path.{_≡_};
-ghost use Prim.Native.Nat.{ℕ, min, _+_, _-_, _*_, _≤_, _<_};
+ghost use Prim.Native.Nat.{ℕ, min, _+_, _-_, _*_, _/_, _%_, _≤_, _<_};
 ghost use lib.IntN.{pos, _+ℤ_};
 ghost use lib.ListN.{length, getD, replicate};
 ghost use Rattle.whole.specs.Lists.{fill};
@@ -10,6 +10,7 @@ ghost use Rattle.whole.specs.Parts.{P, N};
 ghost use Rattle.plane.specs.Place.{SamplesOf, cut};
 ghost use Rattle.plane.specs.Plane.{clip, planeAfter};
 ghost use Rattle.plane.specs.Inner.{rowAfter};
+ghost use Rattle.narrow.specs.Tile.{place};
 
 // s + p, at most 65,535.
 fn up(s: u16, p: u16) -> u16
@@ -69,32 +70,32 @@ fn clip(sample: u16, r: i16, top: u16) -> u16
     least(down(up(sample, positive(r)), negative(r)), top)
 }
 
-// The n samples from `at` on with their residuals.
-fn sums(samples: &[u16], at: usize, z: &[i16; 1024], from: usize, n: usize, top: u16) -> [u16; 8]
-    requires { ⌜ (n ≤ 8) × (at + n ≤ length (now samples)) × (from + n ≤ 1024) ⌝ }
-    ensures { λ r. ⌜ r ≡ fill n (λ j. clip top (pos (getD (now (samples .entry)) (at + j) 0) +ℤ getD (now (z .entry)) (from + j) (pos 0))) (replicate 8 0) ⌝ }
+// Eight samples from `at` on with their residuals.
+fn sums(samples: &[u16], at: usize, z: &[i16; 1024], from: usize, top: u16) -> [u16; 8]
+    requires { ⌜ (at + 8 ≤ length (now samples)) × (from + 8 ≤ 1024) ⌝ }
+    ensures { λ r. ⌜ r ≡ fill 8 (λ j. clip top (pos (getD (now (samples .entry)) (at + j) 0) +ℤ getD (now (z .entry)) (from + j) (pos 0))) (replicate 8 0) ⌝ }
 {
     let mut o = [0u16; 8];
-    for j in 0..n {
+    for j in 0..8usize {
         o[j] = clip(samples[at + j], z[from + j], top);
     }
     o
 }
 
-// All n are made before the first is written, so that they go side by side; n is a literal, 8 or 4.
-fn add_few(samples: &mut [u16], at: usize, z: &[i16; 1024], from: usize, n: usize, top: u16)
-    requires { ⌜ (n ≤ 8) × (at + n ≤ length (now samples)) × (from + n ≤ 1024) ⌝ }
-    ensures { λ _. ⌜ ((k : ℕ) → getD (now (samples .exit)) k 0 ≡ rowAfter top (λ j. getD (now (z .entry)) (from + j) (pos 0)) at n (now (samples .entry)) k) ⌝ }
+// All eight are made before the first is written, so that they go side by side.
+fn add_eight(samples: &mut [u16], at: usize, z: &[i16; 1024], from: usize, top: u16)
+    requires { ⌜ (at + 8 ≤ length (now samples)) × (from + 8 ≤ 1024) ⌝ }
+    ensures { λ _. ⌜ ((k : ℕ) → getD (now (samples .exit)) k 0 ≡ rowAfter top (λ j. getD (now (z .entry)) (from + j) (pos 0)) at 8 (now (samples .entry)) k) ⌝ }
 {
-    let o = sums(samples, at, z, from, n, top);
-    for j in 0..n {
+    let o = sums(samples, at, z, from, top);
+    for j in 0..8usize {
         samples[at + j] = o[j];
     }
 }
 
 // A rest that is cut off, one by one.
 fn add_rest(samples: &mut [u16], at: usize, z: &[i16; 1024], from: usize, cols: usize, top: u16)
-    requires { ⌜ (at + cols ≤ length (now samples)) × (from + cols ≤ 1024) ⌝ }
+    requires { ⌜ (at + cols ≤ length (now samples)) × (from + cols ≤ 2048) × ((j : ℕ) → j < cols → from + j < 1024) ⌝ }
     ensures { λ _. ⌜ ((k : ℕ) → getD (now (samples .exit)) k 0 ≡ rowAfter top (λ j. getD (now (z .entry)) (from + j) (pos 0)) at cols (now (samples .entry)) k) ⌝ }
 {
     for j in 0..cols {
@@ -103,33 +104,36 @@ fn add_rest(samples: &mut [u16], at: usize, z: &[i16; 1024], from: usize, cols: 
     }
 }
 
-// A row of any length.
-fn add_eights(samples: &mut [u16], at: usize, z: &[i16; 1024], from: usize, cols: usize, top: u16)
-    requires { ⌜ (at + cols ≤ length (now samples)) × (from + cols ≤ 1024) ⌝ }
-    ensures { λ _. ⌜ ((k : ℕ) → getD (now (samples .exit)) k 0 ≡ rowAfter top (λ j. getD (now (z .entry)) (from + j) (pos 0)) at cols (now (samples .entry)) k) ⌝ }
+// Row i of a block of n0 columns, as far as the plane has it: eight columns of each strip.
+fn add_row(
+    samples: &mut [u16],
+    at: usize,
+    z: &[i16; 1024],
+    n0: usize,
+    i: usize,
+    cols: usize,
+    top: u16,
+)
+    requires { ⌜ (at + cols ≤ length (now samples)) × (n0 ≤ 32) × (i < n0) × (cols ≤ n0) ⌝ }
+    ensures { λ _. ⌜ ((k : ℕ) → getD (now (samples .exit)) k 0 ≡ rowAfter top (λ j. getD (now (z .entry)) (place n0 i j) (pos 0)) at cols (now (samples .entry)) k) ⌝ }
 {
     let eights = cols / 8;
     for q in 0..eights {
-        add_few(samples, at + 8 * q, z, from + 8 * q, 8, top);
+        add_eight(samples, at + 8 * q, z, 8 * n0 * q + 8 * i, top);
     }
     let done = 8 * eights;
-    add_rest(samples, at + done, z, from + done, cols - done, top);
-}
-
-// One row; of four by itself.
-fn add_row(samples: &mut [u16], at: usize, z: &[i16; 1024], from: usize, cols: usize, top: u16)
-    requires { ⌜ (at + cols ≤ length (now samples)) × (from + cols ≤ 1024) ⌝ }
-    ensures { λ _. ⌜ ((k : ℕ) → getD (now (samples .exit)) k 0 ≡ rowAfter top (λ j. getD (now (z .entry)) (from + j) (pos 0)) at cols (now (samples .entry)) k) ⌝ }
-{
-    if cols == 4 {
-        add_few(samples, at, z, from, 4, top);
-        return;
-    }
-    add_eights(samples, at, z, from, cols, top);
+    add_rest(
+        samples,
+        at + done,
+        z,
+        8 * n0 * eights + 8 * i,
+        cols - done,
+        top,
+    );
 }
 
 // The residuals of n0 rows and columns into the samples at (x, y), of which the plane has `rows` and `cols`.
-pub fn add_rows(
+fn add_rows(
     samples: &mut [u16],
     plane: Plane,
     x: usize,
@@ -141,10 +145,10 @@ pub fn add_rows(
     top: u16,
 )
     requires { ⌜ SamplesOf plane (now samples) × (n0 ≤ 32) × (x < plane .width) × (rows ≡ cut (plane .height) y n0) × (cols ≡ cut (plane .width) x n0) ⌝ }
-    ensures { λ _. ⌜ now (samples .exit) ≡ planeAfter plane top x y n0 (λ i j. getD (now (z .entry)) (i * n0 + j) (pos 0)) (now (samples .entry)) ⌝ }
+    ensures { λ _. ⌜ now (samples .exit) ≡ planeAfter plane top x y n0 (λ i j. getD (now (z .entry)) (place n0 i j) (pos 0)) (now (samples .entry)) ⌝ }
 {
     for i in 0..rows {
-        add_row(samples, plane::place(plane, y + i, x), z, i * n0, cols, top);
+        add_row(samples, plane::place(plane, y + i, x), z, n0, i, cols, top);
     }
 }
 
@@ -159,7 +163,7 @@ pub fn add_back(
     top: u16,
 )
     requires { ⌜ SamplesOf plane (now samples) × (n0 ≤ 32) ⌝ }
-    ensures { λ _. ⌜ now (samples .exit) ≡ planeAfter plane top x y n0 (λ i j. getD (now (z .entry)) (i * n0 + j) (pos 0)) (now (samples .entry)) ⌝ }
+    ensures { λ _. ⌜ now (samples .exit) ≡ planeAfter plane top x y n0 (λ i j. getD (now (z .entry)) (place n0 i j) (pos 0)) (now (samples .entry)) ⌝ }
 {
     let cols = cut(plane.width, x, n0);
     if cols == 0 {

@@ -68,7 +68,7 @@ add-rest-spec =
     loop-holds
     (λ c. search needs)
     (λ c. search needs)
-    (λ c. search needs)
+    (λ c. let s = c .before .before .before in s .pre .2 (c .before .loop .j) (omega arith))
     (λ c. search needs)
     (λ c. search needs)
     (λ c. search needs)

@@ -6,6 +6,7 @@ use native.Mathlib.Omega.{arith}
 use lib.IntN.{pos}
 use lib.ListN.{length, getD}
 use borrow.Author.Needs.{needs}
+use Rattle.narrow.specs.Tile.{place}
 use Rattle.plane.specs.Place.{placeOf, cut}
 use Rattle.plane.specs.Plane.{sampleAfter}
 use Rattle.plane.proofs.Block.{block-none, block-more, by-rows, no-column}
@@ -17,7 +18,7 @@ Inv-loop samples₀ plane x y z n0 rows cols top i₀ samples i =
     ((i ≤ rows) × (length samples ≡ length samples₀))
     × ((row column : ℕ) → column < plane .stride
     → getD samples (placeOf plane row column) 0
-    ≡ sampleAfter top (λ i j. getD z (i * n0 + j) (pos 0)) x y i cols samples₀ row column (placeOf plane row column))
+    ≡ sampleAfter top (λ i j. getD z (place n0 i j) (pos 0)) x y i cols samples₀ row column (placeOf plane row column))
 
 abbrev μ-loop : tie.MeasureT-loop
 μ-loop samples₀ plane x y z n0 rows cols top i₀ samples i = rows - i
@@ -27,7 +28,7 @@ loop-holds c =
     let a = c .before .args in (
       (omega arith, refl),
       λ row column l.
-          block-none (a .top) (λ i j. getD (a .z .now) (i * a .n0 + j) (pos 0)) (a .x) (a .y) (a .samples .now) (a .cols) row column
+          block-none (a .top) (λ i j. getD (a .z .now) (place (a .n0) i j) (pos 0)) (a .x) (a .y) (a .samples .now) (a .cols) row column
           (placeOf (a .plane) row column),
     )
 
@@ -50,12 +51,6 @@ place-requires c κs =
     let p = s c .pre .0 in
     (p .long, omega (arith, p .high, row-in c .0), omega (arith, p .wide, p .long, column-in c .0))
 
-mul-add-row : tie.Need-mul-add-row Inv-loop μ-loop
-mul-add-row c =
-    let d = c .before in
-    let h : l d .loop .i ≤ 32 = omega (arith, row-in d .1, s d .pre .1) in
-    let m : l d .loop .i * s d .args .n0 ≤ 32 * 32 = NatL.mul-le-mul h (s d .pre .1) in omega arith
-
 add-row-requires : tie.Need-add-row-requires Inv-loop μ-loop
 add-row-requires c κs =
     let d = c .before in
@@ -63,10 +58,11 @@ add-row-requires c κs =
     let p = s d .pre .0 in
     let i = l d .loop .i in
     let m : (a .y + i + 1) * a .plane .stride ≤ a .plane .height * a .plane .stride = NatL.mul-le-mul-right (a .plane .stride) (omega (arith, row-in d .0)) in
-    let h : i + 1 ≤ 32 = omega (arith, row-in d .1, s d .pre .1) in
-    let n : (i + 1) * a .n0 ≤ 32 * 32 = NatL.mul-le-mul h (s d .pre .1) in (
+    (
       omega (arith, c .place .ensures, p .all, l d .loop .inv .0 .1, column-in d .0, p .wide, NatL.add-mul (a .y + i) 1 (a .plane .stride), NatL.mul-comm (a .plane .stride) (a .plane .height)),
-      omega (arith, NatL.add-mul i 1 (a .n0), column-in d .1),
+      s d .pre .1,
+      row-in d .1,
+      column-in d .1,
     )
 
 loop-again : tie.Need-loop-again Inv-loop μ-loop
@@ -76,7 +72,7 @@ loop-again c =
     let a = s d .args in
     let t = l d .loop in (
       (omega arith, r .add-row .kept .0 ∙ t .inv .0 .1),
-      block-more (a .top) (λ i j. getD (a .z .now) (i * a .n0 + j) (pos 0)) (a .x) (a .y) (a .samples .now) (a .plane) (a .cols) (t .i)
+      block-more (a .top) (λ i j. getD (a .z .now) (place (a .n0) i j) (pos 0)) (a .x) (a .y) (a .samples .now) (a .plane) (a .cols) (t .i)
           (omega (arith, s d .pre .0 .wide, column-in d .0)) (t .samples) (r .add-row .last .0) (t .inv .1)
           (rw (r .before .place .ensures) at (r .add-row .ensures)),
     )
@@ -87,7 +83,7 @@ returns c =
     let s = t .before .before in
     let a = s .args in
     let e : t .loop .i ≡ cut (a .plane .height) (a .y) (a .n0) = omega (arith, s .pre .3) in
-    by-rows (a .plane) (a .samples .now) (s .pre .0) (a .top) (a .x) (a .y) (a .n0) (λ i j. getD (a .z .now) (i * a .n0 + j) (pos 0))
+    by-rows (a .plane) (a .samples .now) (s .pre .0) (a .top) (a .x) (a .y) (a .n0) (λ i j. getD (a .z .now) (place (a .n0) i j) (pos 0))
     (t .loop .samples) (t .loop .inv .0 .1) (rw (e, s .pre .4) at (t .loop .inv .1))
 
 pub add-rows-spec : {M : Type 1} → statement M
@@ -99,7 +95,6 @@ add-rows-spec =
     loop-holds
     (λ c. omega (arith, s c .pre .0 .high, row-in c .0))
     place-requires
-    mul-add-row
     add-row-requires
     (λ c. search needs)
     (λ c. omega (arith, c .before .before .before .before .before .loop-test .taken))

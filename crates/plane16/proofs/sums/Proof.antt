@@ -14,11 +14,11 @@ use Rattle.plane16.proofs.sums.Statement.{statement}
 use Rattle.plane16.proofs.sums.Tie as tie
 
 abbrev Inv-loop : tie.InvT-loop
-Inv-loop samples at z from n top o₀ j₀ o j =
-    (j ≤ n) × (o ≡ fill j (λ i. clip top (pos (getD samples (at + i) 0) +ℤ getD z (from + i) (pos 0))) (replicate 8 0))
+Inv-loop samples at z from top o₀ j₀ o j =
+    (j ≤ 8) × (o ≡ fill j (λ i. clip top (pos (getD samples (at + i) 0) +ℤ getD z (from + i) (pos 0))) (replicate 8 0))
 
 abbrev μ-loop : tie.MeasureT-loop
-μ-loop samples at z from n top o₀ j₀ o j = n - j
+μ-loop samples at z from top o₀ j₀ o j = 8 - j
 
 loop-again : tie.Need-loop-again Inv-loop μ-loop
 loop-again c =
@@ -28,7 +28,7 @@ loop-again c =
     (omega arith, fill-more _ _ (l .loop .j) (l .loop .inv .1) (ap (set (l .loop .o) (l .loop .j)) (rw e at (c .clip .ensures))))
 
 returns : tie.Need-returns Inv-loop μ-loop
-returns c = fill-done _ _ (c .before .loop .j) (c .before .before .before .args .n) (omega arith) (omega arith) (c .before .loop .inv .1)
+returns c = fill-done _ _ (c .before .loop .j) 8 (omega arith) (omega arith) (c .before .loop .inv .1)
 
 pub sums-spec : {M : Type 1} → statement M
 sums-spec =
