@@ -13,6 +13,8 @@ use Rattle.answers.specs.Limits.{COEF_LIMIT, SIDE_LIMIT, codeable}
 use Rattle.answers.specs.Bad.{badDepth, badSize, badLossless, badTxType, anyBeyond}
 use Rattle.answers.proofs.Numbers.{pass, rest}
 use Rattle.answers.proofs.Passed.{codeable-most, none-beyond}
+use Rattle.quant.specs.declared.DcQuant.{DcQuant}
+use Rattle.quant.specs.declared.AcQuant.{AcQuant}
 use Rattle.quant.specs.Places.{dequantAll}
 use Rattle.plane.specs.declared.Plane.{Plane}
 use Rattle.plane.specs.Place.{SamplesOf, areaOf}
@@ -20,7 +22,7 @@ use Rattle.blocks.specs.Inner.{Possible}
 use Rattle.answers.specs.Sizes.{area}
 use Rattle.reconstruct.specs.Reconstruct.{Input, largest, badQuantizers, badPlane, badCoefficient, answerOf, added, samplesAfter}
 use Rattle.tokens.specs.Inner.{tokenAnswer, shapeOf}
-use Rattle.reconstruct.specs.Inner.{Accepted}
+use Rattle.reconstruct.specs.Inner.{Accepted, Sound}
 
 -- y goes on where x gives 0, and is x where it does not
 record Goes (t x y : ℕ) : Type 0 where
@@ -128,15 +130,16 @@ shaped u h =
     }
 
 -- what answer 0 says of the tokens
-pub accepted : (u : Input) → Shaped u → tokenAnswer (u .size) (u .dc) (u .ac) (u .depth) (u .tokens) ≡ 0 → Accepted (u .size) (u .dc) (u .ac) (u .tx-type) (u .lossless) (u .tokens)
+pub taken : (size : ℕ) (dc : DcQuant) (ac : AcQuant) (tx-type : ℕ) (lossless : Bool) (depth : ℕ) (tokens : List ℤ) → Sound size dc ac tx-type lossless depth tokens
+    → tokenAnswer size dc ac depth tokens ≡ 0 → Accepted size dc ac tx-type lossless tokens
 unfolding tokenAnswer badCoefficient
-accepted u s h =
-    let n = length (u .tokens) in
-    let c = dequantAll (u .size) (u .dc) (u .ac) (u .tokens) in
+taken size dc ac tx-type lossless depth tokens s h =
+    let n = length tokens in
+    let c = dequantAll size dc ac tokens in
     record {
-      possible = s .possible-ok;
-      quantizers = s .quantizers-ok;
-      all = s .length-ok;
-      codeables = λ k l. NatL.le-trans (none-beyond (codeable (u .depth)) n (u .tokens) (pass (anyBeyond (codeable (u .depth)) n (u .tokens)) 7 _ h) k l) (codeable-most (u .depth));
-      coefs = none-beyond COEF_LIMIT n c (pass (anyBeyond COEF_LIMIT n c) 8 _ (rest (anyBeyond (codeable (u .depth)) n (u .tokens)) 7 _ h));
+      possible = s .possible;
+      quantizers = s .quantizers;
+      all = s .all;
+      codeables = λ k l. NatL.le-trans (none-beyond (codeable depth) n tokens (pass (anyBeyond (codeable depth) n tokens) 7 _ h) k l) (codeable-most depth);
+      coefs = none-beyond COEF_LIMIT n c (pass (anyBeyond COEF_LIMIT n c) 8 _ (rest (anyBeyond (codeable depth) n tokens) 7 _ h));
     }

@@ -1,26 +1,47 @@
--- What only the contracts of inner functions read: coefficients in front of zeros, and what the quick way promises where it serves.
+-- What only the contracts of inner functions read: magnitudes or-ed and added up, the coefficients in the order of 16-bit blocks, and what the quick way promises where it serves.
 use mathlib.Core.Path.{_≡_}
 use mathlib.Core.Bool.{false}
 use mathlib.Core.List.{List}
-use Prim.Native.Nat.{ℕ, _+_, _-_, _*_, _≤_, _<_}
+use Prim.Native.Nat.{ℕ, _+_, _*_, _/_, _%_, _^_, _≤_, _<_}
 use lib.IntN.{ℤ, pos, natAbs}
-use lib.ListN.{length, getD, replicate}
-use Rattle.whole.specs.Lists.{fill}
+use lib.ListN.{length, getD}
 use Rattle.answers.specs.Bad.{badQuantizer}
-use Rattle.answers.specs.Sizes.{area}
+use Rattle.answers.specs.Sizes.{side, area}
 use Rattle.quant.specs.declared.DcQuant.{DcQuant}
 use Rattle.quant.specs.declared.AcQuant.{AcQuant}
-use Rattle.quant.specs.Places.{quantizerAt}
-use Rattle.quant.specs.Token.{dequant}
-use Rattle.blocks.specs.Block.{live}
+use Rattle.quant.specs.Places.{quantizerAt, dequantAll}
+use Rattle.quant.specs.Token.{dqDenom, dequant}
 use Rattle.blocks.specs.Inner.{Possible}
 use Rattle.blocks.specs.Inverse.{inverse2d}
-use Rattle.residual16.specs.declared.Made.{Made}
-use Rattle.residual16.specs.declared.Made.the-variants.{Residual, Flat, Coefficients, Nothing}
+use Rattle.narrow.specs.Tile.{raster}
+use Rattle.weights.specs.Inner.{sum}
+use Rattle.narrow_lines.specs.Inner.{Dead}
 
--- the coefficients of a block's tokens, in front of zeros
-unfoldable pub coefsOf : ℕ → DcQuant → AcQuant → List ℤ → List ℤ
-coefsOf size dc ac tokens = fill (area (size + 2)) (λ k. dequant size (quantizerAt dc ac k) (getD tokens k (pos 0))) (replicate 1024 (pos 0))
+-- of the n numbers from `start` on no magnitude is above `all`, and they add up to `added`, but for what is past 64 bits
+pub record Weighed (start n : ℕ) (s : List ℤ) (all added : ℕ) : Type 0 where
+  pub each : (k : ℕ) → k < n → natAbs (getD s (start + k) (pos 0)) ≤ all
+  pub whole : added ≡ sum n (λ k. natAbs (getD s (start + k) (pos 0))) % 2 ^ 64
+
+-- the same of a whole block, whose rows past so many strips of eight are zeros
+pub record Scanned (n : ℕ) (s : List ℤ) (all added strips : ℕ) : Type 0 where
+  pub weighed : Weighed 0 (area n) s all added
+  pub least : 1 ≤ strips
+  pub most : 8 * strips ≤ side n
+  pub dead : Dead (8 * strips * side n) s
+
+-- token and coefficient are of 16 bits
+abbrev pub Short : ℕ → ℤ → ℤ → Type 0
+Short size q token = (natAbs token ≤ 32767) × (natAbs token * natAbs q ≤ 32767 * dqDenom size)
+
+-- the number of the block, row by row, that stands at place p by strips of eight columns
+unfoldable pub source : ℕ → ℕ → ℕ
+source n0 p = p / 8 % n0 * n0 + (8 * (p / 8 / n0) + p % 8)
+
+-- the coefficient that stands there
+unfoldable pub tiled : ℕ → DcQuant → AcQuant → List ℤ → ℕ → ℤ
+tiled size dc ac tokens p =
+    let k = source (side (size + 2)) p in
+    dequant size (quantizerAt dc ac k) (getD tokens k (pos 0))
 
 -- a block of 8 by 8 or more, with all its tokens and quantizers in their range
 pub record Lent (size : ℕ) (dc : DcQuant) (ac : AcQuant) (tx-type : ℕ) (tokens : List ℤ) : Type 0 where
@@ -30,19 +51,7 @@ pub record Lent (size : ℕ) (dc : DcQuant) (ac : AcQuant) (tx-type : ℕ) (toke
   pub dc-ok : badQuantizer (dc .0) ≡ false
   pub ac-ok : badQuantizer (ac .0) ≡ false
 
--- no token needs more than 16,384, and z is the residual
+-- no token is above 16,383, and z holds the residual
 pub record Served (size : ℕ) (dc : DcQuant) (ac : AcQuant) (tx-type : ℕ) (tokens z : List ℤ) : Type 0 where
-  pub small : (k : ℕ) → k < length tokens → natAbs (getD tokens k (pos 0)) ≤ 16384
-  pub made : z ≡ inverse2d (size + 2) tx-type false (coefsOf size dc ac tokens)
-
--- the same, and z is the coefficients
-pub record Dequantized (size : ℕ) (dc : DcQuant) (ac : AcQuant) (tokens z : List ℤ) : Type 0 where
-  pub small : (k : ℕ) → k < length tokens → natAbs (getD tokens k (pos 0)) ≤ 16384
-  pub made : z ≡ coefsOf size dc ac tokens
-
--- what stands in z; flat, no token but the first is live
-abbrev pub Stands : ℕ → DcQuant → AcQuant → ℕ → List ℤ → List ℤ → Made → Type 0
-Stands size dc ac tx-type tokens z Residual = Served size dc ac tx-type tokens z
-Stands size dc ac tx-type tokens z Flat = Served size dc ac tx-type tokens z × (live 1 (length tokens - 1) tokens ≡ false)
-Stands size dc ac tx-type tokens z Coefficients = Dequantized size dc ac tokens z
-Stands size dc ac tx-type tokens z Nothing = Unit {0}
+  pub small : (k : ℕ) → k < length tokens → natAbs (getD tokens k (pos 0)) ≤ 16383
+  pub made : raster (side (size + 2)) z ≡ inverse2d (size + 2) tx-type false (dequantAll size dc ac tokens)

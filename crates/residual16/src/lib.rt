@@ -1,116 +1,177 @@
 // The residual of tokens by 16-bit lines, where no number on the way needs more.
 use answers::area;
 use answers::magnitude;
+use answers::side;
 use quant::AcQuant;
 use quant::DcQuant;
 ghost use mathlib.Core.Bool.{true, false};
 ghost use mathlib.Core.Path.{_≡_};
-ghost use Prim.Native.Nat.{ℕ, _+_, _*_, _≤_, _<_};
+ghost use Prim.Native.Nat.{ℕ, _+_, _-_, _*_, _^_, _≤_, _<_};
 ghost use lib.IntN.{pos, natAbs};
-ghost use lib.Signed.{quotZ};
 ghost use lib.ListN.{length, getD, replicate, set};
 ghost use Rattle.whole.specs.Lists.{fill};
-ghost use Rattle.whole.specs.Round.{Round2};
-ghost use Rattle.whole.specs.Within.{Within};
+ghost use Rattle.whole.specs.Inner.{times};
 ghost use Rattle.answers.specs.Bad.{badQuantizer};
-ghost use Rattle.answers.specs.Limits.{codeable};
-ghost use Rattle.answers.specs.Sizes.{area};
+ghost use Rattle.answers.specs.Sizes.{side, area};
+ghost use Rattle.quant.specs.declared.DcQuant.{DcQuant};
+ghost use Rattle.quant.specs.Places.{quantizerAt, dequantAll};
 ghost use Rattle.quant.specs.Token.{dqDenom, dequant};
 ghost use Rattle.blocks.specs.Inner.{Possible, dcValue};
 ghost use Rattle.blocks.specs.Inverse.{inverse2d};
+ghost use Rattle.narrow.specs.Tile.{raster};
 ghost use Rattle.weights.specs.Inner.{total};
-ghost use Rattle.residual16.specs.Inner.{Lent, Stands};
+ghost use Rattle.narrow_lines.specs.Inner.{Dead};
+ghost use Rattle.residual16.specs.Inner.{Weighed, Scanned, Short, tiled, Lent, Served};
 
-// A power of two whose product by the quantizer is of 16 bits.
-fn reach(quantizer: u64) -> u64
-    ensures { λ r. ⌜ (r * quantizer ≤ 32767) × (r ≤ 16384) ⌝ }
+// The magnitudes of some numbers, or-ed together and added up; the sum wraps only where one of them is great.
+struct Strip {
+    all: u64,
+    sum: u64,
+}
+
+// Those of the n numbers from start on.
+fn weigh_strip(numbers: &[i64], start: usize, n: usize) -> Strip
+    requires { ⌜ start + n ≤ length (now numbers) ⌝ }
+    ensures { λ r. ⌜ Weighed start n (now (numbers .entry)) (r .all) (r .sum) ⌝ }
 {
-    match quantizer {
-        1 => 16384,
-        2..=3 => 8192,
-        4..=7 => 4096,
-        8..=15 => 2048,
-        16..=31 => 1024,
-        32..=63 => 512,
-        64..=127 => 256,
-        128..=255 => 128,
-        256..=511 => 64,
-        512..=1023 => 32,
-        1024..=2047 => 16,
-        2048..=4095 => 8,
-        4096..=8191 => 4,
-        8192..=16383 => 2,
-        16384..=32767 => 1,
-        _ => 0,
+    let mut all = 0u64;
+    let mut sum = 0u64;
+    for k in 0..n {
+        let m = magnitude(numbers[start + k]);
+        all = all | m;
+        sum = std::num::wrapping_add_u64(sum, m);
+    }
+    Strip { all: all, sum: sum }
+}
+
+// Those of a block of 8 by 8 or more, and how many strips of eight rows reach to the last that is live; at least one.
+struct Weight {
+    all: u64,
+    sum: u64,
+    strips: usize,
+}
+
+// One scan: no other test of the numbers is needed.
+fn weigh(tokens: &[i64], n: u32) -> Weight
+    requires { ⌜ (3 ≤ n) × (n ≤ 5) × (length (now tokens) ≡ area n) ⌝ }
+    ensures { λ r. ⌜ Scanned n (now (tokens .entry)) (r .all) (r .sum) (r .strips) ⌝ }
+{
+    let n0 = side(n);
+    let mut all = 0u64;
+    let mut sum = 0u64;
+    let mut strips = 1usize;
+    for s in 0..n0 / 8 {
+        let w = weigh_strip(tokens, 8 * n0 * s, 8 * n0);
+        all = all | w.all;
+        sum = std::num::wrapping_add_u64(sum, w.sum);
+        if w.all != 0 {
+            strips = s + 1;
+        }
+    }
+    Weight {
+        all: all,
+        sum: sum,
+        strips: strips,
     }
 }
 
-// The same for two quantizers: that of the greater.
-fn reach_both(dc: i32, ac: i32) -> u64
-    requires { ⌜ (badQuantizer dc ≡ false) × (badQuantizer ac ≡ false) ⌝ }
-    ensures { λ r. ⌜ (r * natAbs dc ≤ 32767) × (r * natAbs ac ≤ 32767) × (r ≤ 16384) ⌝ }
-{
-    let first = dc as u64;
-    let rest = ac as u64;
-    if first < rest {
-        return reach(rest);
-    }
-    reach(first)
-}
-
-// The product, halved toward zero at 32 by 32.
-fn divided(product: i16, size: u32) -> i16
-    ensures { λ r. ⌜ r ≡ quotZ product (pos (dqDenom size)) ⌝ }
+// The greatest sum of products: the coefficients, which at 32 by 32 are their halves, then add up to 31,883 at most.
+fn most(size: u32) -> u64
+    ensures { λ r. ⌜ r ≡ 31883 * dqDenom size ⌝ }
 {
     if size == 3 {
-        return product / 2;
+        return 63766;
     }
-    product
+    31883
 }
 
-// The coefficient of a token whose product is of 16 bits.
-fn coefficient(token: i64, quantizer: i32, size: u32) -> i16
-    requires { ⌜ (badQuantizer quantizer ≡ false) × (natAbs token ≤ codeable 12) × (natAbs token * natAbs quantizer ≤ 32767) ⌝ }
-    ensures { λ r. ⌜ r ≡ dequant size quantizer token ⌝ }
+// Whether 16 bits are enough for tokens of these magnitudes, the first of them by itself.
+fn enough(all: u64, sum: u64, first: u64, size: u32, dc_quant: DcQuant, ac_quant: AcQuant) -> bool
+    requires { ⌜ (badQuantizer («dc_quant» .0) ≡ false) × (badQuantizer («ac_quant» .0) ≡ false) × (all ≤ 16383 → (first ≤ sum) × (sum ≤ 2 ^ 24)) ⌝ }
+    ensures { λ r. ⌜ (r ≡ true → (all ≤ 16383) × (first * natAbs («dc_quant» .0) + (sum - first) * natAbs («ac_quant» .0) ≤ 31883 * dqDenom size)) ⌝ }
 {
-    let t = token as i16;
-    let product = (t as i32) * quantizer;
-    divided(product as i16, size)
+    if 16383 < all {
+        return false;
+    }
+    dc_quant.weight(first) + ac_quant.weight(sum - first) <= most(size)
 }
 
-// The coefficients of `count` tokens, all by one quantizer.
-fn dequantize(z: &mut [i16; 1024], tokens: &[i64], count: usize, size: u32, quantizer: i32)
-    requires { ⌜ (count ≤ 1024) × (count ≤ length (now tokens)) × (badQuantizer quantizer ≡ false) × ((k : ℕ) → k < count → (natAbs (getD (now tokens) k (pos 0)) ≤ codeable 12) × (natAbs (getD (now tokens) k (pos 0)) * natAbs quantizer ≤ 32767)) ⌝ }
-    ensures { λ _. ⌜ now (z .exit) ≡ fill count (λ k. dequant size quantizer (getD (now (tokens .entry)) k (pos 0))) (now (z .entry)) ⌝ }
+// The coefficients of eight tokens from `at` on, but for those before `from`.
+fn eight(tokens: &[i64], at: usize, from: usize, ac_quant: AcQuant, size: u32) -> [i16; 8]
+    requires { ⌜ (at + 8 ≤ length (now tokens)) × (from ≤ 8) × (badQuantizer («ac_quant» .0) ≡ false) × ((j : ℕ) → from ≤ j → j < 8 → Short size («ac_quant» .0) (getD (now tokens) (at + j) (pos 0))) ⌝ }
+    ensures { λ r. ⌜ (length r ≡ 8) × ((j : ℕ) → from ≤ j → j < 8 → getD r j (pos 0) ≡ dequant size («ac_quant» .0) (getD (now (tokens .entry)) (at + j) (pos 0))) ⌝ }
 {
-    for k in 0..count {
-        z[k] = coefficient(tokens[k], quantizer, size);
+    let mut o = [0i16; 8];
+    for j in from..8usize {
+        o[j] = ac_quant.dequant16(tokens[at + j], size);
+    }
+    o
+}
+
+// Those of the first eight: DC at place 0, AC at all others.
+fn first_eight(tokens: &[i64], dc_quant: DcQuant, ac_quant: AcQuant, size: u32) -> [i16; 8]
+    requires { ⌜ (8 ≤ length (now tokens)) × (badQuantizer («dc_quant» .0) ≡ false) × (badQuantizer («ac_quant» .0) ≡ false) × Short size («dc_quant» .0) (getD (now tokens) 0 (pos 0)) × ((j : ℕ) → 1 ≤ j → j < 8 → Short size («ac_quant» .0) (getD (now tokens) j (pos 0))) ⌝ }
+    ensures { λ r. ⌜ ((j : ℕ) → j < 8 → getD r j (pos 0) ≡ dequant size (quantizerAt «dc_quant» «ac_quant» j) (getD (now (tokens .entry)) j (pos 0))) ⌝ }
+{
+    let mut o = eight(tokens, 0, 1, ac_quant, size);
+    o[0] = dc_quant.dequant16(tokens[0], size);
+    o
+}
+
+// Eight numbers to the block; all are made before the first is written, so that they go side by side.
+fn put(z: &mut [i16; 1024], at: usize, o: &[i16; 8])
+    requires { ⌜ at + 8 ≤ 1024 ⌝ }
+    ensures { λ _. ⌜ now (z .exit) ≡ times 8 (λ j s. set s (at + j) (getD (now (o .entry)) j (pos 0))) (now (z .entry)) ⌝ }
+{
+    for j in 0..8usize {
+        z[at + j] = o[j];
     }
 }
 
-// Round2 by two shifts, so that no sum leaves 16 bits.
-fn rounded(x: i16, shift: u32) -> i16
-    requires { ⌜ (5 ≤ «shift») × («shift» ≤ 6) ⌝ }
-    ensures { λ r. ⌜ r ≡ Round2 x «shift» ⌝ }
+// The coefficients of eight columns from 8 × q on, of the rows `from` to `rows`.
+fn dequantize_strip(
+    z: &mut [i16; 1024],
+    tokens: &[i64],
+    q: usize,
+    from: usize,
+    rows: usize,
+    size: u32,
+    ac_quant: AcQuant,
+)
+    requires { ⌜ (1 ≤ size) × (size ≤ 3) × (length (now tokens) ≡ area (size + 2)) × (8 * q + 8 ≤ side (size + 2)) × (from ≤ rows) × (rows ≤ side (size + 2)) × (1 ≤ q + from) ⌝ }
+    requires { ⌜ (badQuantizer («ac_quant» .0) ≡ false) × ((k : ℕ) → 1 ≤ k → k < length (now tokens) → Short size («ac_quant» .0) (getD (now tokens) k (pos 0))) ⌝ }
+    ensures { λ _. ⌜ ((dc : DcQuant) → now (z .entry) ≡ fill (8 * side (size + 2) * q + 8 * from) (tiled size dc «ac_quant» (now (tokens .entry))) (replicate 1024 (pos 0)) → now (z .exit) ≡ fill (8 * side (size + 2) * q + 8 * rows) (tiled size dc «ac_quant» (now (tokens .entry))) (replicate 1024 (pos 0))) ⌝ }
 {
-    if shift == 5 {
-        return ((x >> 4) + 1) >> 1;
+    let n0 = side(size + 2);
+    for i in from..rows {
+        let o = eight(tokens, n0 * i + 8 * q, 0, ac_quant, size);
+        put(z, 8 * n0 * q + 8 * i, &o);
     }
-    ((x >> 5) + 1) >> 1
 }
 
-// The first `count` numbers, rounded.
-fn round(z: &mut [i16; 1024], count: usize, shift: u32)
-    requires { ⌜ (count ≤ 1024) × (5 ≤ «shift») × («shift» ≤ 6) ⌝ }
-    ensures { λ _. ⌜ now (z .exit) ≡ fill count (λ k. Round2 (getD (now (z .entry)) k (pos 0)) «shift») (now (z .entry)) ⌝ }
+// The coefficients of the first `rows` rows, of which there is one at least, into a block of zeros; all other tokens are 0.
+fn dequantize(
+    z: &mut [i16; 1024],
+    tokens: &[i64],
+    rows: usize,
+    size: u32,
+    dc_quant: DcQuant,
+    ac_quant: AcQuant,
+)
+    requires { ⌜ (now z ≡ replicate 1024 (pos 0)) × (1 ≤ size) × (size ≤ 3) × (length (now tokens) ≡ area (size + 2)) × (1 ≤ rows) × (rows ≤ side (size + 2)) × Dead (rows * side (size + 2)) (now tokens) ⌝ }
+    requires { ⌜ (badQuantizer («dc_quant» .0) ≡ false) × (badQuantizer («ac_quant» .0) ≡ false) × ((k : ℕ) → k < length (now tokens) → Short size (quantizerAt «dc_quant» «ac_quant» k) (getD (now tokens) k (pos 0))) ⌝ }
+    ensures { λ _. ⌜ (length (now (z .exit)) ≡ 1024) × (raster (side (size + 2)) (now (z .exit)) ≡ dequantAll size «dc_quant» «ac_quant» (now (tokens .entry))) ⌝ }
 {
-    for k in 0..count {
-        z[k] = rounded(z[k], shift);
+    let o = first_eight(tokens, dc_quant, ac_quant, size);
+    put(z, 0, &o);
+    dequantize_strip(z, tokens, 0, 1, rows, size, ac_quant);
+    for q in 1..side(size + 2) / 8 {
+        dequantize_strip(z, tokens, q, 0, rows, size, ac_quant);
     }
 }
 
-// One number at every place.
-pub fn flat(z: &mut [i16; 1024], count: usize, v: i16)
+// One number at the first `count` places.
+fn flat(z: &mut [i16; 1024], count: usize, v: i16)
     requires { ⌜ count ≤ 1024 ⌝ }
     ensures { λ _. ⌜ now (z .exit) ≡ fill count (λ k. v) (now (z .entry)) ⌝ }
 {
@@ -119,47 +180,27 @@ pub fn flat(z: &mut [i16; 1024], count: usize, v: i16)
     }
 }
 
-// The residual of the token at place 0 alone, of type 0.
-fn residual_dc(z: &mut [i16; 1024], token: i64, size: u32, dc: i32)
-    requires { ⌜ (1 ≤ size) × (size ≤ 3) × (badQuantizer dc ≡ false) × (natAbs token ≤ codeable 12) × (natAbs token * natAbs dc ≤ 32767) ⌝ }
-    ensures { λ _. ⌜ now (z .exit) ≡ fill (area (size + 2)) (λ k. dcValue (size + 2) (dequant size dc token)) (now (z .entry)) ⌝ }
+// The residual of the coefficient at place 0 alone, of type 0.
+fn residual_dc(z: &mut [i16; 1024], n: u32)
+    requires { ⌜ (3 ≤ n) × (n ≤ 5) ⌝ }
+    ensures { λ _. ⌜ now (z .exit) ≡ fill (area n) (λ k. dcValue n (getD (now (z .entry)) 0 (pos 0))) (now (z .entry)) ⌝ }
 {
-    let x = coefficient(token, dc, size);
-    let v = dc::dc_value(x as i64, size + 2);
-    flat(z, area(size + 2), v as i16);
+    let x = z[0];
+    let v = dc::dc_value(x as i64, n);
+    flat(z, area(n), v as i16);
 }
 
-// The rows and the columns of a block of a small total, and the rounding.
-fn passes(z: &mut [i16; 1024], n: u32, tx_type: u8)
-    requires { ⌜ (3 ≤ n) × Possible n «tx_type» false × (length (now z) ≡ 1024) × (total (area n) (now z) ≤ 31883) ⌝ }
-    ensures { λ _. ⌜ now (z .exit) ≡ inverse2d n «tx_type» false (now (z .entry)) ⌝ }
+// The residual of coefficients that add up to little, the rows past `strips` strips of eight being zeros.
+fn passes(z: &mut [i16; 1024], n: u32, tx_type: u8, strips: usize)
+    requires { ⌜ (3 ≤ n) × Possible n «tx_type» false × (length (now z) ≡ 1024) × (total (area n) (raster (side n) (now z)) ≤ 31883) × (8 * strips ≤ side n) × Dead (8 * strips * side n) (raster (side n) (now z)) ⌝ }
+    ensures { λ _. ⌜ raster (side n) (now (z .exit)) ≡ inverse2d n «tx_type» false (raster (side n) (now (z .entry))) ⌝ }
 {
-    narrow_lines::rows(z, n, blocks::row_dct(tx_type));
+    narrow_lines::rows(z, n, blocks::row_dct(tx_type), strips);
     narrow_lines::columns(z, n, blocks::column_dct(tx_type));
-    round(z, area(n), blocks::rounding_bits(n));
+    narrow_lines::round(z, n);
 }
 
-// The first `count` numbers of z at 64 bits. As numbers of z they are of 16.
-pub fn widen(block: &mut [i64; 1024], z: &[i16; 1024], count: usize)
-    requires { ⌜ count ≤ 1024 ⌝ }
-    ensures made { λ _. ⌜ now (block .exit) ≡ fill count (λ k. getD (now (z .entry)) k (pos 0)) (now (block .entry)) ⌝ }
-    ensures told { λ _. ⌜ ((k : ℕ) → k < count → Within 32768 (getD (now (z .entry)) k (pos 0))) ⌝ }
-{
-    for k in 0..count {
-        let x = narrow::wide(z[k]);
-        block[k] = x as i64;
-    }
-}
-
-// What stands in the block: the residual, that of place 0 alone, the coefficients, or nothing that is of use.
-pub enum Made {
-    Residual,
-    Flat,
-    Coefficients,
-    Nothing,
-}
-
-// The residual of a block's tokens into a block of zeros; where only their total is too great for it, the coefficients.
+// The residual of a block's tokens into a block of zeros; false where 16 bits may be too few, and then nothing is told of the block.
 pub fn residual(
     z: &mut [i16; 1024],
     tokens: &[i64],
@@ -167,29 +208,23 @@ pub fn residual(
     dc_quant: DcQuant,
     ac_quant: AcQuant,
     tx_type: u8,
-) -> Made
+) -> bool
     requires { ⌜ (now z ≡ replicate 1024 (pos 0)) × Lent size «dc_quant» «ac_quant» «tx_type» (now tokens) ⌝ }
-    ensures { λ r. ⌜ Stands size «dc_quant» «ac_quant» «tx_type» (now (tokens .entry)) (now (z .exit)) r ⌝ }
+    ensures { λ r. ⌜ (r ≡ true → Served size «dc_quant» «ac_quant» «tx_type» (now (tokens .entry)) (now (z .exit))) ⌝ }
 {
-    let dc = dc_quant.0;
-    let ac = ac_quant.0;
-    let count = area(size + 2);
-    let most = reach_both(dc, ac);
-    if dc::only_dc(tokens, count, tx_type) {
-        if most < magnitude(tokens[0]) {
-            return Made::Nothing;
+    let w = weigh(tokens, size + 2);
+    let first = magnitude(tokens[0]);
+    if !enough(w.all, w.sum, first, size, dc_quant, ac_quant) {
+        return false;
+    }
+    if w.sum == first {
+        if tx_type == 0 {
+            z[0] = dc_quant.dequant16(tokens[0], size);
+            residual_dc(z, size + 2);
+            return true;
         }
-        residual_dc(z, tokens[0], size, dc);
-        return Made::Flat;
     }
-    if most + most <= blocks::or_plus_most(tokens, 0, count, most) {
-        return Made::Nothing;
-    }
-    dequantize(z, tokens, count, size, ac);
-    z[0] = coefficient(tokens[0], dc, size);
-    if 31883 < narrow_lines::total(z, count) {
-        return Made::Coefficients;
-    }
-    passes(z, size + 2, tx_type);
-    Made::Residual
+    dequantize(z, tokens, 8 * w.strips, size, dc_quant, ac_quant);
+    passes(z, size + 2, tx_type, w.strips);
+    true
 }

@@ -20,7 +20,7 @@ sum-same (suc n) f g h = omega (arith, h 0 (omega arith), sum-same n (λ i. f (s
 sum-at : {a b : ℕ} (f : ℕ → ℕ) → a ≡ b → sum a f ≡ sum b f
 sum-at f e = ap (λ q. sum q f) e
 
-sum-join : (a b : ℕ) (f : ℕ → ℕ) → sum (a + b) f ≡ sum a f + sum b (λ i. f (a + i))
+pub sum-join : (a b : ℕ) (f : ℕ → ℕ) → sum (a + b) f ≡ sum a f + sum b (λ i. f (a + i))
 unfolding sum
 sum-join zero b f =
     let e : 0 + b ≡ b = omega arith in

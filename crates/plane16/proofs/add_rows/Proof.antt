@@ -57,8 +57,7 @@ add-row-requires c κs =
     let a = s d .args in
     let p = s d .pre .0 in
     let i = l d .loop .i in
-    let m : (a .y + i + 1) * a .plane .stride ≤ a .plane .height * a .plane .stride = NatL.mul-le-mul-right (a .plane .stride) (omega (arith, row-in d .0)) in
-    (
+    let m : (a .y + i + 1) * a .plane .stride ≤ a .plane .height * a .plane .stride = NatL.mul-le-mul-right (a .plane .stride) (omega (arith, row-in d .0)) in (
       omega (arith, c .place .ensures, p .all, l d .loop .inv .0 .1, column-in d .0, p .wide, NatL.add-mul (a .y + i) 1 (a .plane .stride), NatL.mul-comm (a .plane .stride) (a .plane .height)),
       s d .pre .1,
       row-in d .1,

@@ -19,18 +19,19 @@ add-rows-requires c κs =
       (omega arith, omega arith, λ i j h l. omega (arith, s .pre .1, below-sixteen i j h l), s .pre .2),
     )
 
-add-cut4-requires : tie.Need-add-cut4-requires
-add-cut4-requires c κs =
+add-back-requires : tie.Need-add-back-requires
+add-back-requires c κs =
     let s = c .before .before .before .before .before .before .before in
     let b = s .args .block .now in
-    rw (c .before .before .front .ensures) (s .pre .0, few-length b, few-within b _ (s .pre .2))
+    rw (c .before .before .front .ensures)
+    (s .pre .0, omega arith, omega arith, λ i j h l. omega (arith, few-length b, below-sixteen i j h l), few-within b _ (s .pre .2))
 
 returns-2 : tie.Need-returns-2
 returns-2 c =
     let s = c .before .before .before .before .before .before .before .before .before .before in
     let a = s .args in
     let b = a .block .now in
-    c .before .before .add-cut4 .ensures
+    c .before .before .add-back .ensures
     ∙ rw (c .before .before .before .before .before .front .ensures)
     (same-residuals (a .plane) (a .samples .now) (s .pre .0) (a .top) (a .x) (a .y) 4 _ (λ i j. getD b (i * 4 + j) (pos 0))
     (λ i j h l. few-at b (i * 4 + j) (below-sixteen i j h l)))
@@ -45,6 +46,7 @@ add-back4-spec =
     (λ c. search needs)
     (λ c. search needs)
     (λ c κs. search needs)
-    add-cut4-requires
+    (λ c. search needs)
+    add-back-requires
     (λ c. search needs)
     returns-2)
