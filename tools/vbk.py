@@ -144,7 +144,7 @@ def program():
     subprocess.run([os.path.join(ROOT, "blockrun")], stdin=subprocess.DEVNULL, stdout=subprocess.DEVNULL, check=True)
     words = '. tools/machine && printf "%s\\n" ${emulator:+"$emulator"} "$loader" --library-path "$libraries"'
     said = subprocess.run(["sh", "-c", words], cwd=ROOT, stdout=subprocess.PIPE, check=True).stdout.decode()
-    return said.splitlines() + [os.path.join(ROOT, "target", "bin", "blockrun")]
+    return said.splitlines() + [os.path.join(ROOT, "target", "ready", "blockrun")]
 
 
 def words(usage, least, most):
