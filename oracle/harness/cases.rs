@@ -389,9 +389,11 @@ fn engine32(r: &mut Rng) -> Call {
 }
 
 /// The sum of magnitudes up to which blocks go by 16-bit lines without a test.
+#[cfg(linked)]
 const FEW: i64 = 31_883;
 
 /// A block of 8 by 8 or more whose coefficients' magnitudes sum to about FEW: to FEW itself and a few around it where the quantizers let them.
+#[cfg(linked)]
 fn few(r: &mut Rng) -> Recon {
     let mut c = loop {
         let c = good_recon(r);
@@ -421,6 +423,7 @@ fn few(r: &mut Rng) -> Recon {
 }
 
 /// A call at an edge of what 16 bits hold: one side of the 32-bit engine's condition, or magnitudes that sum to about FEW, there and in reconstruction.
+#[cfg(linked)]
 pub fn near(r: &mut Rng) -> Call {
     match r.below(4) {
         0..=1 => {
