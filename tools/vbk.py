@@ -147,9 +147,18 @@ def program():
     return said.splitlines() + [os.path.join(ROOT, "target", "ready", "blockrun")]
 
 
+def version():
+    """The tool's name and the version of all."""
+    with open(os.path.join(ROOT, "VERSION"), encoding="ascii") as f:
+        return "%s (Bracetwill) %s" % (os.path.basename(sys.argv[0]), f.read().strip())
+
+
 def words(usage, least, most):
     """The words of the command; where there are too few or too many, or one is an option, how the tool is used, and status 2."""
     given = sys.argv[1:]
+    if given == ["--version"]:
+        print(version())
+        sys.exit(0)
     if "-h" in given or "--help" in given:
         print(usage)
         sys.exit(0)

@@ -67,6 +67,8 @@ int main(void) {
   printf("file of %u bytes: record answered %u, samples written %u, the last is %u\n", (unsigned)length[0], (unsigned)answers[0],
          (unsigned)figures[BRACETWILL_FIGURE_TOUCHED], (unsigned)shown[8 * 4 - 1]);
 
-  /* the block of above at a depth that there is not: the plane stays */
-  return !refused("reconstruction", bracetwill_reconstruct_block(plane, 8 * 4, 8, 4, 8, 4, 0, 0, block, 16, 4, 4, BRACETWILL_DCT_DCT, true, 9));
+  /* the block of above at a depth that there is not is refused, as it must be: the plane stays */
+  const uint32_t answer = bracetwill_reconstruct_block(plane, 8 * 4, 8, 4, 8, 4, 0, 0, block, 16, 4, 4, BRACETWILL_DCT_DCT, true, 9);
+  printf("at depth 9: answer %u, %s; the plane's first sample is still %u\n", (unsigned)answer, bracetwill_answer_meaning(answer), (unsigned)plane[0]);
+  return answer != BRACETWILL_ANSWER_DEPTH;
 }
