@@ -241,7 +241,7 @@ define ptr @bracetwill_blockrun(ptr %file, ptr %file_len.c, ptr %samples, ptr %s
   ret ptr %answer.c
 }
 
-define zeroext i32 @bracetwill_vbk_write(i32 %depth.c, i32 %width.c, i32 %height.c, ptr %samples, ptr %samples_len.c, ptr %xs, ptr %xs_len.c, ptr %ys, ptr %ys_len.c, ptr %sizes, ptr %sizes_len.c, ptr %tx_types, ptr %tx_types_len.c, ptr %lossless, ptr %lossless_len.c, ptr %dcs, ptr %dcs_len.c, ptr %acs, ptr %acs_len.c, ptr %counts, ptr %counts_len.c, ptr %tokens, ptr %tokens_len.c, ptr %out, ptr %out_len.c, ptr %length) {
+define zeroext i32 @bracetwill_vbk_write(i32 %depth.c, i32 %width.c, i32 %height.c, ptr %samples, ptr %samples_len.c, ptr %xs, ptr %xs_len.c, ptr %ys, ptr %ys_len.c, ptr %sizes, ptr %sizes_len.c, ptr %tx_types, ptr %tx_types_len.c, ptr %lossless, ptr %lossless_len.c, ptr %dcs, ptr %dcs_len.c, ptr %acs, ptr %acs_len.c, ptr %counts, ptr %counts_len.c, ptr %tokens, ptr %tokens_len.c, ptr %out, ptr %out_len.c, ptr %length.c) {
   %depth = trunc i32 %depth.c to i8
   %width = trunc i32 %width.c to i16
   %height = trunc i32 %height.c to i16
@@ -300,6 +300,13 @@ define zeroext i32 @bracetwill_vbk_write(i32 %depth.c, i32 %width.c, i32 %height
   store ptr %out, ptr %out.list
   %out.count = getelementptr { ptr, i64 }, ptr %out.list, i32 0, i32 1
   store i64 %out_len, ptr %out.count
+  %length = alloca i64
+  %length.before = load ptr, ptr %length.c
+  %length.wide = ptrtoint ptr %length.before to i64
+  store i64 %length.wide, ptr %length
   %answer = call i32 @"exports::bracetwill_vbk_write"(i8 %depth, i16 %width, i16 %height, ptr %samples.list, ptr %xs.list, ptr %ys.list, ptr %sizes.list, ptr %tx_types.list, ptr %lossless.list, ptr %dcs.list, ptr %acs.list, ptr %counts.list, ptr %tokens.list, ptr %out.list, ptr %length)
+  %length.told = load i64, ptr %length
+  %length.after = inttoptr i64 %length.told to ptr
+  store ptr %length.after, ptr %length.c
   ret i32 %answer
 }

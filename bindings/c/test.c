@@ -401,7 +401,7 @@ static void reconstruct_refuses(void) {
   c.width = c.stride = 1;
   c.height = BRACETWILL_SIDE_LIMIT + 1;
   reconstruct_refused(c, 0, 0, BRACETWILL_ANSWER_PLANE, "reconstruction: height above its limit");
-  c.width = c.height = c.stride = (size_t)1 << 63;
+  c.width = c.height = c.stride = SIZE_MAX / 2 + 1;
   c.samples_len = 0;
   reconstruct_refused(c, 0, 0, BRACETWILL_ANSWER_PLANE, "reconstruction: stride times height wraps to 0");
   c = good;
@@ -1086,6 +1086,73 @@ static void clip_refuses(void) {
   clip_refused(c, BRACETWILL_ANSWER_LOSSLESS_BYTE, "writing: lossless byte before the buffer");
 }
 
+/* Garbage above an argument narrower than 32 bits: a calling convention may leave there what it likes. So each call that has one is made as if it
+ * took 32 bits; volatile, so that the compiler cannot see through it. */
+enum { GARBAGE = 0x5A5A5A00 };
+
+typedef uint32_t wide_driver(int64_t *, size_t, uint32_t, uint32_t, uint32_t);
+typedef uint32_t wide_rows(int64_t *, size_t, uint32_t, uint32_t, uint32_t, uint32_t *);
+typedef uint32_t wide_reconstruct(uint16_t *, size_t, size_t, size_t, size_t, size_t, size_t, uint32_t, const int64_t *, size_t, int32_t,
+                                  int32_t, uint32_t, uint32_t, uint32_t);
+typedef uint32_t wide_report(uint16_t *, size_t, size_t, size_t, size_t, size_t, size_t, uint32_t, const int64_t *, size_t, int32_t, int32_t,
+                             uint32_t, uint32_t, uint32_t, uint32_t *, uint64_t *);
+typedef uint32_t wide_write(uint32_t, uint32_t, uint32_t, const uint16_t *, size_t, const uint16_t *, size_t, const uint16_t *, size_t,
+                            const uint8_t *, size_t, const uint8_t *, size_t, const uint8_t *, size_t, const uint16_t *, size_t,
+                            const uint16_t *, size_t, const uint32_t *, size_t, const int32_t *, size_t, uint8_t *, size_t, size_t *);
+
+static void wide_drivers(driver *narrow) {
+  wide_driver *volatile call = (wide_driver *)(void (*)(void))narrow;
+  for (uint32_t type = 0; type < 5; type++)
+    for (uint32_t lossless = 0; lossless < 2; lossless++) {
+      filled(3, 77);
+      uint32_t want = narrow(list, 16, 2, (uint8_t)type, lossless != 0);
+      copy(before, list, sizeof list);
+      for (size_t k = 0; k < MOST; k++) list[k] = (int64_t)(k * 37 % 101) - 50;
+      list[3] = 77;
+      equal(call(list, 16, 2, GARBAGE | type, GARBAGE | lossless), want, "garbage: driver");
+      check(same(list, before, sizeof list), "garbage: driver, the block", (long long)type, (long long)lossless);
+    }
+}
+
+static void wide_arguments(void) {
+  static uint16_t plane[16], want[16];
+  static uint32_t rows, counts[BRACETWILL_ENTRIES];
+  static uint64_t sums[BRACETWILL_ENTRIES];
+  static uint8_t file[128];
+  static const uint8_t size = 0, type = 3, lossless = 1;
+  static const uint16_t zero = 0, quant = 4;
+  static const uint32_t sixteen = 16;
+  static const int32_t tokens[16] = {5};
+  size_t length = 0;
+  wide_drivers(bracetwill_inverse_transform_2d);
+  wide_drivers(bracetwill_inverse_transform_2d_reference);
+  wide_drivers(bracetwill_inverse_transform_2d_32);
+  wide_rows *volatile call_rows = (wide_rows *)(void (*)(void))bracetwill_inverse_transform_2d_rows;
+  zeros();
+  list[5] = 9;
+  equal(call_rows(list, 16, 2, GARBAGE | 1, GARBAGE, &rows), BRACETWILL_ANSWER_DONE, "garbage: rows");
+  equal(rows, 1, "garbage: the number of rows");
+  wide_reconstruct *volatile call = (wide_reconstruct *)(void (*)(void))bracetwill_reconstruct_block;
+  wide_report *volatile call_report = (wide_report *)(void (*)(void))bracetwill_reconstruct_block_report;
+  for (uint32_t is_lossless = 0; is_lossless < 2; is_lossless++)
+    for (uint32_t tx_type = 0; tx_type < 4; tx_type++) {
+      filled(0, 12);
+      for (size_t k = 0; k < 16; k++) plane[k] = want[k] = 100;
+      equal(bracetwill_reconstruct_block(want, 16, 4, 4, 4, 0, 0, 0, list, 16, 4, 4, (uint8_t)tx_type, is_lossless != 0, 8), 0, "garbage: plain");
+      equal(call(plane, 16, 4, 4, 4, 0, 0, 0, list, 16, 4, 4, GARBAGE | tx_type, GARBAGE | is_lossless, 8), 0, "garbage: reconstruction");
+      check(same(plane, want, sizeof plane), "garbage: samples", (long long)tx_type, (long long)is_lossless);
+      for (size_t k = 0; k < 16; k++) plane[k] = 100;
+      equal(call_report(plane, 16, 4, 4, 4, 0, 0, 0, list, 16, 4, 4, GARBAGE | tx_type, GARBAGE | is_lossless, 8, counts, sums), 0, "garbage: report");
+      check(same(plane, want, sizeof plane), "garbage: samples beside a report", (long long)tx_type, (long long)is_lossless);
+    }
+  wide_write *volatile call_write = (wide_write *)(void (*)(void))bracetwill_vbk_write;
+  uint16_t one = 7;
+  equal(call_write(GARBAGE | 8, 0x5A5A0000 | 1, 0x5A5A0000 | 1, &one, 1, &zero, 1, &zero, 1, &size, 1, &type, 1, &lossless, 1, &quant, 1, &quant, 1,
+                   &sixteen, 1, tokens, 16, file, sizeof file, &length),
+        BRACETWILL_ANSWER_DONE, "garbage: writer");
+  equal((long long)length, 87, "garbage: the file's length");
+}
+
 int main(void) {
   drivers_refuse(bracetwill_inverse_transform_2d);
   drivers_refuse(bracetwill_inverse_transform_2d_reference);
@@ -1117,6 +1184,7 @@ int main(void) {
   clip_takes();
   clip_refuses();
   meanings();
+  wide_arguments();
   printf("%u passed, %u failed\n", passed, failed);
   return failed != 0;
 }

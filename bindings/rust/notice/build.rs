@@ -10,7 +10,7 @@ fn main() {
         return;
     }
     let root = Path::new(&here).join("../../..");
-    for path in ["crates", "crates.txt", "bindings/archive", "target/staticlib/libbracetwill.a"] {
+    for path in ["crates", "crates.txt", "bindings/archive", "tools/slices.ll"] {
         println!("cargo::rerun-if-changed={}", root.join(path).display());
     }
     if let Ok(said) = Command::new("sh").arg(root.join("bindings/archive")).arg("--stale").output() {
