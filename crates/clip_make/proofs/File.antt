@@ -1,56 +1,48 @@
--- What the writer's promise says of the file and of the buffer's length.
+-- What the writer's promise says of what `make` made.
 use mathlib.Core.Path.{_≡_, refl, sym, ap, _∙_}
 use mathlib.Core.Bool.{Bool, true, false, cond}
-use mathlib.Core.List.{List, _++_}
-use Prim.Native.Nat.{ℕ, _+_, _≤_}
+use mathlib.Core.List.{List}
+use Prim.Native.Nat.{ℕ, _≤_}
 use native.Mathlib.Omega.{arith}
-use borrow.Author.Tests.{eqb-true, eq-eqb}
-use lib.Dec.{eqb}
-use lib.ListN.{length, drop, length-append, length-drop}
+use borrow.Author.Tests.{eq-eqb, ne-eqb}
+use lib.ListN.{length}
 use Rattle.answers.specs.Answers.{number}
 use Rattle.clip_rows.specs.Rows.{Said}
-use Rattle.vbk_write.specs.Lent.{Lent, fileOf}
+use Rattle.vbk_write.specs.Lent.{Lent}
 use Rattle.vbk_write.specs.Promises.{answerOf, Wrote}
 use Rattle.vbk_write.specs.declared.Written.{Written}
-use Rattle.vbk_write.proofs.Answers.{taken}
 use Rattle.clip_make.specs.Make.{FileMade, MadeOf}
 use Rattle.clip_make.specs.declared.Made.{Made}
 
-module _ {l : Lent} {out after : List ℕ} {r : Written} (w : Wrote l out r after) where
-  pub wrote-said : Said out (r .length) after
-  wrote-said = go (eqb (answerOf l (length out)) 0) refl
-    where
-      go : (b : Bool) → eqb (answerOf l (length out)) 0 ≡ b → Said out (r .length) after
-      go true e =
-          let t = taken l (length out) (eqb-true (answerOf l (length out)) 0 e) in
-          let n : r .length ≡ length (fileOf l) = w .length-is ∙ rw e in
-          let a : after ≡ fileOf l ++ drop (length (fileOf l)) out = w .out-is ∙ rw e in
-          let m : length after ≡ length (fileOf l) + length (drop (length (fileOf l)) out) = ap length a ∙ length-append (fileOf l) (drop (length (fileOf l)) out) in
-          omega (arith, n, m, t .there, length-drop (length (fileOf l)) out)
-      go false e =
-          let n : r .length ≡ 0 = w .length-is ∙ rw e in
-          let a : after ≡ out = w .out-is ∙ rw e in
-          let m : length after ≡ length out = ap length a in
-          omega (arith, n, m)
+-- the file that the writer answers 0
+wrote-file : {l : Lent} {out after : List ℕ} {r : Written} → Wrote l out r after → number (r .answer) ≡ 0 → FileMade out (r .length) after
+wrote-file {l} {out} w z =
+    let a : answerOf l (length out) ≡ 0 = sym (w .answered) ∙ z in
+    let e = eq-eqb (answerOf l (length out)) 0 a in
+    record { lists = l; taken = a; length-is = w .length-is ∙ rw e; after-is = w .out-is ∙ rw e }
 
-  pub wrote-file : number (r .answer) ≡ 0 → FileMade out (r .length) after
-  wrote-file z =
-      let a : answerOf l (length out) ≡ 0 = sym (w .answered) ∙ z in
-      let e = eq-eqb (answerOf l (length out)) 0 a in
-      record { lists = l; taken = a; length-is = w .length-is ∙ rw e; after-is = w .out-is ∙ rw e }
+-- the buffer that the writer refuses
+wrote-none : {l : Lent} {out after : List ℕ} {r : Written} → Wrote l out r after → (number (r .answer) ≡ 0 → ⊥) → after ≡ out
+wrote-none {l} {out} w z =
+    let e = ne-eqb (answerOf l (length out)) 0 (λ a. z (w .answered ∙ a)) in
+    w .out-is ∙ rw e
 
 never : false ≡ true → ⊥
 never p = omega (arith, ap {B = ℕ} (λ (b : Bool). cond b 1 0) p)
 
--- words are no file
-pub words-made : {out after : List ℕ} (m : Made) → m .good ≡ false → Said out (m .length) after → MadeOf out m after
-words-made m g s = record { said = s; file = λ e. absurd (never (sym g ∙ e)) }
+-- no file, and the buffer as it was
+pub none-made : {out words after told : List ℕ} (m : Made) → m .good ≡ false → after ≡ out → Said words (m .said) told → MadeOf out words m after told
+none-made m g o s = record { said = s; file = λ e. absurd (never (sym g ∙ e)); stays = λ _. o }
 
--- words over what the writer left
-pub refused-made : {l : Lent} {out mid after : List ℕ} {r : Written} (m : Made) → Wrote l out r mid → m .good ≡ false → Said mid (m .length) after → MadeOf out m after
-refused-made m w g s = words-made m g (s .0, s .1 ∙ wrote-said w .1)
+-- words over what the writer refused
+pub refused-made : {l : Lent} {out words after told : List ℕ} {r : Written} {n : ℕ} (m : Made) → Wrote l out r after → n ≡ number (r .answer) → (n ≡ 0 → ⊥) → m .good ≡ false → Said words (m .said) told → MadeOf out words m after told
+refused-made m w e z g s = none-made m g (wrote-none w (λ a. z (e ∙ a))) s
 
 -- the file that the writer answered 0
-pub file-made : {l : Lent} {out after : List ℕ} {r : Written} {n : ℕ} → Wrote l out r after → n ≡ number (r .answer) → n ≡ 0
-    → MadeOf out (record { good = true; length = r .length }) after
-file-made w e z = record { said = wrote-said w; file = λ _. wrote-file w (sym e ∙ z) }
+pub file-made : {l : Lent} {out words after : List ℕ} {r : Written} {n : ℕ} (k : ℕ) → Wrote l out r after → n ≡ number (r .answer) → n ≡ 0 → k ≤ length words
+    → MadeOf out words (record { good = true; length = r .length; said = k }) after words
+file-made k w e z s = record { said = (s, refl); file = λ _. wrote-file w (sym e ∙ z); stays = λ g. absurd (never (sym g)) }
+
+-- words that were told before
+pub told-before : {out words mid after told : List ℕ} (m : Made) → length mid ≡ length words → MadeOf out mid m after told → MadeOf out words m after told
+told-before m e p = record { said = (p .said .0, p .said .1 ∙ e); file = p .file; stays = p .stays }

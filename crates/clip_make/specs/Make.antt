@@ -1,6 +1,6 @@
--- What `make` promises: what it made is a file that the writer takes the lists of; anything else is words that the buffer has room for.
+-- What `make` promises: what it made is a file that the writer takes the lists of, or nothing; and words that their buffer has room for.
 use mathlib.Core.Path.{_≡_}
-use mathlib.Core.Bool.{Bool, true}
+use mathlib.Core.Bool.{Bool, true, false}
 use mathlib.Core.List.{List, _++_}
 use Prim.Native.Nat.{ℕ}
 use lib.ListN.{length, drop}
@@ -17,6 +17,7 @@ pub record FileMade (out : List ℕ) (n : ℕ) (after : List ℕ) : Type 0 where
   pub after-is : after ≡ fileOf lists ++ drop (length (fileOf lists)) out
 
 -- the promise
-pub record MadeOf (out : List ℕ) (r : Made) (after : List ℕ) : Type 0 where
-  pub said : Said out (r .length) after
+pub record MadeOf (out words : List ℕ) (r : Made) (after told : List ℕ) : Type 0 where
+  pub said : Said words (r .said) told
   pub file : r .good ≡ true → FileMade out (r .length) after
+  pub stays : r .good ≡ false → after ≡ out

@@ -1,17 +1,16 @@
 // A VBK file made of a clip's text (docs/REFERENCE.md): the rows are read into lists, the lists written by `vbk_write`.
-ghost use mathlib.Core.Path.{_≡_};
-ghost use mathlib.Core.Bool.{false};
-ghost use Rattle.clip_rows.specs.Rows.{Said};
+ghost use Prim.Native.Nat.{_≤_};
+ghost use lib.ListN.{length};
 ghost use Rattle.clip_state.specs.Inner.{Held};
 ghost use Rattle.clip_make.specs.Make.{MadeOf};
-use clip_told::NOTHING;
 use clip_told::REFUSED;
 use clip_told::State;
 
-// The text made a file, or words on what is wrong; how long that is in the buffer.
+// The text made a file, and how long that is; how long the words are: on what is wrong, or warnings.
 pub struct Made {
     pub good: bool,
     pub length: usize,
+    pub said: usize,
 }
 
 // Rooms for the lists of any file.
@@ -64,14 +63,15 @@ fn first_tokens(list: &[i32], n: usize) -> &[i32] {
     &list[0..n]
 }
 
-// The words, in the buffer.
-fn tell(text: &[u8], s: State, out: &mut [u8]) -> Made
-    ensures { λ r. ⌜ (r .good ≡ false) × Said (now (out .entry)) (r .length) (now (out .exit)) ⌝ }
+// The place past the words that are told.
+fn past_words(words: &[u8], s: State) -> usize
+    ensures { λ r. ⌜ r ≤ length (now (words .entry)) ⌝ }
 {
-    Made {
-        good: false,
-        length: clip_told::tell(text, s, out),
+    let said = s.said;
+    if words.len() < said {
+        return words.len();
     }
+    said
 }
 
 // The writer's own refusal.
@@ -84,7 +84,6 @@ fn refused(s: State, number: u32) -> State {
 
 // The lists of the state, written.
 fn write(
-    text: &[u8],
     s: State,
     samples: &[u16],
     xs: &[u16],
@@ -97,8 +96,9 @@ fn write(
     counts: &[u32],
     tokens: &[i32],
     out: &mut [u8],
+    words: &mut [u8],
 ) -> Made
-    ensures { λ r. ⌜ MadeOf (now (out .entry)) r (now (out .exit)) ⌝ }
+    ensures { λ r. ⌜ MadeOf (now (out .entry)) (now (words .entry)) r (now (out .exit)) (now (words .exit)) ⌝ }
 {
     let written = vbk_write::vbk_write(
         s.depth,
@@ -119,17 +119,21 @@ fn write(
     let answer = written.answer;
     let number = answers::code(answer);
     if number != 0 {
-        return tell(text, refused(s, number), out);
+        return Made {
+            good: false,
+            length: 0,
+            said: clip_told::tell(b"", refused(s, number), words),
+        };
     }
     Made {
         good: true,
         length: written.length,
+        said: past_words(words, s),
     }
 }
 
 // What the state says of the lists, written.
 fn write_front(
-    text: &[u8],
     s: State,
     samples: &[u16; 4096],
     xs: &[u16; 874],
@@ -142,15 +146,15 @@ fn write_front(
     counts: &[u32; 874],
     tokens: &[i32; 16384],
     out: &mut [u8],
+    words: &mut [u8],
 ) -> Made
     requires { ⌜ Held s ⌝ }
-    ensures { λ r. ⌜ MadeOf (now (out .entry)) r (now (out .exit)) ⌝ }
+    ensures { λ r. ⌜ MadeOf (now (out .entry)) (now (words .entry)) r (now (out .exit)) (now (words .exit)) ⌝ }
 {
     let m = s.samples as usize;
     let n = s.records;
     let k = s.start + s.need;
     write(
-        text,
         s,
         first16(samples, m),
         first16(xs, n),
@@ -163,12 +167,13 @@ fn write_front(
         first32(counts, n),
         first_tokens(tokens, k),
         out,
+        words,
     )
 }
 
-// The file of a text, at the start of the buffer; or words on what is wrong there.
-pub fn make(text: &[u8], out: &mut [u8]) -> Made
-    ensures { λ r. ⌜ MadeOf (now (out .entry)) r (now (out .exit)) ⌝ }
+// The file of a text, at the start of the buffer; or words on what is wrong, and nothing there.
+pub fn make(text: &[u8], out: &mut [u8], words: &mut [u8]) -> Made
+    ensures { λ r. ⌜ MadeOf (now (out .entry)) (now (words .entry)) r (now (out .exit)) (now (words .exit)) ⌝ }
 {
     let mut samples = room_samples();
     let mut xs = room16();
@@ -192,12 +197,16 @@ pub fn make(text: &[u8], out: &mut [u8]) -> Made
         &mut acs,
         &mut counts,
         &mut tokens,
+        words,
     );
-    if s.wrong != NOTHING {
-        return tell(text, s, out);
+    if s.faults != 0 {
+        return Made {
+            good: false,
+            length: 0,
+            said: past_words(words, s),
+        };
     }
     write_front(
-        text,
         s,
         &samples,
         &xs,
@@ -210,5 +219,6 @@ pub fn make(text: &[u8], out: &mut [u8]) -> Made
         &counts,
         &tokens,
         out,
+        words,
     )
 }

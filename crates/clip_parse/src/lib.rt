@@ -1,21 +1,27 @@
-// A clip's text (docs/REFERENCE.md) read into the lists of a file, row by row. What is wrong is kept in the state.
+// A clip's text (docs/REFERENCE.md) read into the lists of a file, row by row. What is wrong is told in words, and reading goes on.
 ghost use mathlib.Core.Path.{_≡_};
 ghost use Prim.Native.Nat.{_≤_, _<_};
 ghost use lib.ListN.{length};
 ghost use Rattle.clip_state.specs.Inner.{Held};
+use clip_rows::ANY;
+use clip_rows::BLANK;
 use clip_rows::Field;
 use clip_rows::Number;
+use clip_state::MOST;
 use clip_state::begin_file;
 use clip_state::begin_record;
 use clip_state::close;
 use clip_state::fail;
 use clip_state::fail_with;
 use clip_state::finish;
+use clip_state::go_past;
 use clip_state::letter_row;
 use clip_state::meet;
 use clip_state::next_line;
 use clip_state::nothing;
 use clip_state::plus;
+use clip_state::to_tell;
+use clip_state::to_warn;
 use clip_state::tokens_of;
 use clip_state::with_header;
 use clip_told::ABOVE;
@@ -42,9 +48,10 @@ use clip_told::TOO_MANY;
 use clip_told::TWO_HEADERS;
 use clip_told::UNKNOWN_ROW;
 
-// A place in a row, past a number that was read; or what is wrong with the field there.
+// A place in a row with this separator, past a number that was read; or what is wrong with the field there.
 struct Place {
     at: usize,
+    mark: u8,
     column: u64,
     wrong: u8,
     from: usize,
@@ -133,26 +140,37 @@ fn fail_at(s: State, p: Place) -> State
     t
 }
 
-// What is wrong with a field of samples or tokens.
-fn fail_field(s: State, column: u64, f: Field, wrong: u8, limit: u64) -> State
+// What is wrong with a field of samples or tokens: the row goes on after it.
+fn fail_field(s: State, f: Field, wrong: u8, limit: u64) -> State
     requires { ⌜ Held s ⌝ }
     ensures { λ r. ⌜ Held r ⌝ }
 {
     let mut t = s;
     t.wrong = wrong;
-    t.column = column;
     t.from = f.from;
     t.to = f.to;
     t.limit = limit;
+    t.rest = f.next;
     t
 }
 
-// The place at which a row's numbers begin.
-fn first_place(at: usize) -> Place
+// One field further in a row.
+fn next_column(s: State) -> State
+    requires { ⌜ Held s ⌝ }
+    ensures { λ r. ⌜ Held r ⌝ }
+{
+    let mut t = s;
+    t.column = plus(s.column, 1);
+    t
+}
+
+// The place at which the numbers of the state's row begin.
+fn first_place(at: usize, s: State) -> Place
     ensures { λ r. ⌜ r .at ≡ at ⌝ }
 {
     Place {
         at,
+        mark: s.mark,
         column: 1,
         wrong: NOTHING,
         from: at,
@@ -168,6 +186,7 @@ fn wrong_place(p: Place, from: usize, to: usize, wrong: u8, limit: u64) -> Place
 {
     Place {
         at: p.at,
+        mark: p.mark,
         column: plus(p.column, 1),
         wrong,
         from,
@@ -198,7 +217,7 @@ fn read_unsigned(text: &[u8], end: usize, p: Place, high: u64) -> Place
     if end <= at {
         return wrong_place(p, at, at, TOO_FEW, 0);
     }
-    let f = clip_rows::next_field(text, at, end);
+    let f = clip_rows::next_field(text, at, end, p.mark);
     let from = f.from;
     let to = f.to;
     if from == to {
@@ -216,6 +235,7 @@ fn read_unsigned(text: &[u8], end: usize, p: Place, high: u64) -> Place
     }
     Place {
         at: f.next,
+        mark: p.mark,
         column: plus(p.column, 1),
         wrong: NOTHING,
         from,
@@ -406,10 +426,10 @@ fn check_header(s: State, more: bool) -> State
 }
 
 // The three numbers of the header.
-fn read_size(text: &[u8], at: usize, end: usize) -> Size
-    requires { ⌜ (at ≤ end) × (end ≤ length (now text)) ⌝ }
+fn read_size(text: &[u8], end: usize, p: Place) -> Size
+    requires { ⌜ (p .at ≤ end) × (end ≤ length (now text)) ⌝ }
 {
-    let depth = read_unsigned(text, end, first_place(at), 255);
+    let depth = read_unsigned(text, end, p, 255);
     let width = read_unsigned(text, end, depth, 65535);
     let place = read_unsigned(text, end, width, 65535);
     Size {
@@ -428,7 +448,7 @@ fn take_header(text: &[u8], at: usize, end: usize, s: State) -> State
     if s.header_line != 0 {
         return fail(s, TWO_HEADERS);
     }
-    let h = read_size(text, at, end);
+    let h = read_size(text, end, first_place(at, s));
     let place = h.place;
     if place.wrong != NOTHING {
         return fail_at(s, place);
@@ -458,6 +478,33 @@ fn fill_tokens(tokens: &mut [i32; 16384], from: usize, stop: usize, value: i32)
     }
 }
 
+// Where the first sample above the depth's range stands.
+fn first_over(s: State) -> State
+    requires { ⌜ Held s ⌝ }
+    ensures { λ r. ⌜ Held r ⌝ }
+{
+    if s.over != 0 {
+        return s;
+    }
+    let mut t = s;
+    t.over_line = s.line;
+    t.over_column = s.column;
+    t
+}
+
+// Samples above the depth's range are taken, and remembered.
+fn past_range(s: State, run: Samples) -> State
+    requires { ⌜ Held s ⌝ }
+    ensures { λ r. ⌜ Held r ⌝ }
+{
+    if run.value <= clip_told::top(s.depth) {
+        return s;
+    }
+    let mut t = first_over(s);
+    t.over = plus(s.over, run.count);
+    t
+}
+
 // A run of samples: those past every plane are only counted.
 fn add_samples(s: State, run: Samples, samples: &mut [u16; 4096]) -> State
     requires { ⌜ Held s ⌝ }
@@ -467,7 +514,7 @@ fn add_samples(s: State, run: Samples, samples: &mut [u16; 4096]) -> State
     let from = least(s.samples, 4096);
     let stop = least(count, 4096);
     fill_samples(samples, from as usize, stop as usize, run.value);
-    let mut t = s;
+    let mut t = past_range(s, run);
     t.samples = count;
     t
 }
@@ -494,13 +541,12 @@ fn take_samples(text: &[u8], at: usize, end: usize, s: State, samples: &mut [u16
 {
     let mut t = s;
     let mut next = at;
-    let mut column: u64 = 1;
     while next < end {
-        let f = clip_rows::next_field(text, next, end);
+        let f = clip_rows::next_field(text, next, end, t.mark);
         let run = read_samples(text, f.from, f.to);
-        column = plus(column, 1);
+        t = next_column(t);
         if run.wrong != NOTHING {
-            return fail_field(t, column, f, run.wrong, run.limit);
+            return fail_field(t, f, run.wrong, run.limit);
         }
         t = add_samples(t, run, samples);
         next = f.next;
@@ -508,27 +554,19 @@ fn take_samples(text: &[u8], at: usize, end: usize, s: State, samples: &mut [u16
     t
 }
 
-// The tokens of a row, from a place on, which is past so many columns.
-fn take_tokens(
-    text: &[u8],
-    at: usize,
-    end: usize,
-    s: State,
-    columns: u64,
-    tokens: &mut [i32; 16384],
-) -> State
+// The tokens of a row, from a place on.
+fn take_tokens(text: &[u8], at: usize, end: usize, s: State, tokens: &mut [i32; 16384]) -> State
     requires { ⌜ (Held s) × ((at ≤ end) × (end ≤ length (now text))) ⌝ }
     ensures { λ r. ⌜ Held r ⌝ }
 {
     let mut t = s;
     let mut next = at;
-    let mut column = columns;
     while next < end {
-        let f = clip_rows::next_field(text, next, end);
+        let f = clip_rows::next_field(text, next, end, t.mark);
         let run = read_tokens(text, f.from, f.to);
-        column = plus(column, 1);
+        t = next_column(t);
         if run.wrong != NOTHING {
-            return fail_field(t, column, f, run.wrong, run.limit);
+            return fail_field(t, f, run.wrong, run.limit);
         }
         t = add_tokens(t, run, tokens);
         next = f.next;
@@ -537,11 +575,11 @@ fn take_tokens(
 }
 
 // The first three numbers of a record.
-fn read_corner(text: &[u8], at: usize, end: usize) -> Corner
-    requires { ⌜ (at ≤ end) × (end ≤ length (now text)) ⌝ }
+fn read_corner(text: &[u8], end: usize, p: Place) -> Corner
+    requires { ⌜ (p .at ≤ end) × (end ≤ length (now text)) ⌝ }
     ensures { λ r. ⌜ r .place .at ≤ end ⌝ }
 {
-    let x = read_unsigned(text, end, first_place(at), 65535);
+    let x = read_unsigned(text, end, p, 65535);
     let y = read_unsigned(text, end, x, 65535);
     let place = read_unsigned(text, end, y, 3);
     Corner {
@@ -553,11 +591,11 @@ fn read_corner(text: &[u8], at: usize, end: usize) -> Corner
 }
 
 // The seven numbers of a record before its tokens.
-fn read_head(text: &[u8], at: usize, end: usize) -> Head
-    requires { ⌜ (at ≤ end) × (end ≤ length (now text)) ⌝ }
+fn read_head(text: &[u8], end: usize, p: Place) -> Head
+    requires { ⌜ (p .at ≤ end) × (end ≤ length (now text)) ⌝ }
     ensures { λ r. ⌜ r .place .at ≤ end ⌝ }
 {
-    let c = read_corner(text, at, end);
+    let c = read_corner(text, end, p);
     let tx_type = read_unsigned(text, end, c.place, 255);
     let lossless = read_unsigned(text, end, tx_type, 1);
     let dc = read_unsigned(text, end, lossless, 65535);
@@ -600,6 +638,19 @@ fn store_head(
     counts[i] = need as u32;
 }
 
+// A record for which the file has no room; where something else is wrong its length is not known.
+fn too_long(s: State, length: usize) -> State
+    requires { ⌜ Held s ⌝ }
+    ensures { λ r. ⌜ Held r ⌝ }
+{
+    if s.faults == 0 {
+        return fail_with(s, FILE_LENGTH, length as u64);
+    }
+    let mut t = s;
+    t.spoiled = true;
+    t
+}
+
 // A record's numbers before its tokens, into the lists.
 fn take_head(
     text: &[u8],
@@ -618,7 +669,7 @@ fn take_head(
     requires { ⌜ (Held s) × ((at ≤ end) × (end ≤ length (now text))) ⌝ }
     ensures { λ r. ⌜ (Held (r .state)) × (r .at ≤ end) ⌝ }
 {
-    let h = read_head(text, at, end);
+    let h = read_head(text, end, first_place(at, s));
     let place = h.place;
     if place.wrong != NOTHING {
         return Begun {
@@ -630,7 +681,7 @@ fn take_head(
     let length = s.length + 11 + 4 * need;
     if answers::FILE_LIMIT < length {
         return Begun {
-            state: fail_with(s, FILE_LENGTH, length as u64),
+            state: too_long(s, length),
             at: end,
         };
     }
@@ -653,16 +704,18 @@ fn take_head(
     }
 }
 
-// The tokens in the row of a record that began: past eight columns.
+// The tokens in the row of a record that began, past eight columns; from here on it is like a row K.
 fn go_on(text: &[u8], end: usize, b: Begun, tokens: &mut [i32; 16384]) -> State
     requires { ⌜ (Held (b .state)) × ((b .at ≤ end) × (end ≤ length (now text))) ⌝ }
     ensures { λ r. ⌜ Held r ⌝ }
 {
-    let t = b.state;
+    let mut t = b.state;
     if t.wrong != NOTHING {
         return t;
     }
-    take_tokens(text, b.at, end, t, 8, tokens)
+    t.row = TOKEN_ROW;
+    t.column = 8;
+    take_tokens(text, b.at, end, t, tokens)
 }
 
 // The row R: a record's numbers, and the tokens that follow them.
@@ -701,6 +754,32 @@ fn take_record(
     go_on(text, end, b, tokens)
 }
 
+// Why a row may not stand before the header, where nothing is wrong yet.
+fn too_early(s: State) -> u8 {
+    if s.faults != 0 {
+        return NOTHING;
+    }
+    HEADER_LATE
+}
+
+// Why samples or tokens may not stand where they stand, where no row before them was wrong.
+fn out_of_order(s: State) -> u8 {
+    if s.spoiled {
+        return NOTHING;
+    }
+    if s.row == SAMPLE_ROW {
+        if s.met != 0 {
+            return SAMPLES_LATE;
+        }
+    }
+    if s.row == TOKEN_ROW {
+        if s.met == 0 {
+            return NO_RECORD;
+        }
+    }
+    NOTHING
+}
+
 // Why a row may not stand where it stands.
 fn misplaced(s: State) -> u8 {
     if s.row == NO_ROW {
@@ -710,28 +789,33 @@ fn misplaced(s: State) -> u8 {
         return NOTHING;
     }
     if s.header_line == 0 {
-        return HEADER_LATE;
+        return too_early(s);
     }
-    if s.row == SAMPLE_ROW {
-        if s.records != 0 {
-            return SAMPLES_LATE;
-        }
+    out_of_order(s)
+}
+
+// Where a record's row is met, what came before it is counted; where that is wrong, the row goes on after its letter.
+fn at_record(s: State, next: usize) -> State
+    requires { ⌜ Held s ⌝ }
+    ensures { λ r. ⌜ Held r ⌝ }
+{
+    let mut t = close(s);
+    if t.wrong == NOTHING {
+        return meet(t);
     }
-    if s.row == TOKEN_ROW {
-        if s.records == 0 {
-            return NO_RECORD;
-        }
-    }
-    NOTHING
+    t.rest = next;
+    t
 }
 
 // The state at a row's first field: which row it is, and what is wrong with its being there.
-fn at_row(text: &[u8], f: Field, s: State) -> State
+fn at_row(text: &[u8], f: Field, mark: u8, s: State) -> State
     requires { ⌜ (Held s) × ((f .from ≤ f .to) × (f .to ≤ length (now text))) ⌝ }
     ensures { λ r. ⌜ Held r ⌝ }
 {
     let mut t = s;
     t.row = row_of(text, f.from, f.to);
+    t.mark = mark;
+    t.column = 1;
     t.from = f.from;
     t.to = f.to;
     let wrong = misplaced(t);
@@ -739,11 +823,7 @@ fn at_row(text: &[u8], f: Field, s: State) -> State
         return fail(t, wrong);
     }
     if t.row == RECORD_ROW {
-        let c = close(t);
-        if c.wrong != NOTHING {
-            return c;
-        }
-        return meet(c);
+        return at_record(t, f.next);
     }
     t
 }
@@ -772,7 +852,7 @@ fn take_fields(
     match row {
         HEADER_ROW => take_header(text, at, end, s),
         SAMPLE_ROW => take_samples(text, at, end, s, samples),
-        TOKEN_ROW => take_tokens(text, at, end, s, 1, tokens),
+        TOKEN_ROW => take_tokens(text, at, end, s, tokens),
         _ => take_record(
             text,
             at,
@@ -811,8 +891,8 @@ fn take_row(
     requires { ⌜ (Held s) × ((at < end) × (end ≤ length (now text))) ⌝ }
     ensures { λ r. ⌜ Held r ⌝ }
 {
-    let f = clip_rows::next_field(text, at, end);
-    let t = at_row(text, f, s);
+    let f = clip_rows::first_field(text, at, end);
+    let t = at_row(text, f, clip_rows::separator(text, at, end), s);
     if t.wrong != NOTHING {
         return t;
     }
@@ -845,19 +925,43 @@ fn skipped(text: &[u8], at: usize, end: usize) -> bool
     text[first] == b'#'
 }
 
-// The line's end without blanks and empty fields; the line's begin where nothing of it is read.
+// The line's end without blanks and empty fields, in a row with this separator.
+fn fields_end(text: &[u8], at: usize, end: usize, mark: u8) -> usize
+    requires { ⌜ (at ≤ end) × (end ≤ length (now text)) ⌝ }
+    ensures { λ r. ⌜ (at ≤ r) × (r ≤ end) ⌝ }
+{
+    if mark == BLANK {
+        return clip_rows::trimmed(text, at, end, ANY);
+    }
+    clip_rows::trimmed(text, at, end, mark)
+}
+
+// The same of a line; its begin where nothing of it is read.
 fn row_end(text: &[u8], at: usize, end: usize) -> usize
     requires { ⌜ (at ≤ end) × (end ≤ length (now text)) ⌝ }
     ensures { λ r. ⌜ (at ≤ r) × (r ≤ end) ⌝ }
 {
-    let stop = clip_rows::trimmed(text, at, end);
+    let stop = clip_rows::trimmed(text, at, end, ANY);
     if skipped(text, at, stop) {
         return at;
     }
-    stop
+    fields_end(text, at, end, clip_rows::separator(text, at, stop))
 }
 
-// One line of the text.
+// The row goes on: that of a record after its letter, another one after a wrong field.
+fn resumed(s: State) -> State
+    requires { ⌜ Held s ⌝ }
+    ensures { λ r. ⌜ Held r ⌝ }
+{
+    let mut t = s;
+    t.rest = 0;
+    if t.row == RECORD_ROW {
+        return meet(t);
+    }
+    t
+}
+
+// One line of the text, or what is left of one after a wrong field.
 fn take_line(
     text: &[u8],
     at: usize,
@@ -877,6 +981,24 @@ fn take_line(
     requires { ⌜ (Held s) × ((at ≤ end) × (end ≤ length (now text))) ⌝ }
     ensures { λ r. ⌜ Held r ⌝ }
 {
+    if s.rest != 0 {
+        return take_fields(
+            text,
+            at,
+            fields_end(text, at, end, s.mark),
+            resumed(s),
+            samples,
+            xs,
+            ys,
+            sizes,
+            tx_types,
+            lossless,
+            dcs,
+            acs,
+            counts,
+            tokens,
+        );
+    }
     let t = next_line(s);
     let stop = row_end(text, at, end);
     if stop <= at {
@@ -900,7 +1022,45 @@ fn take_line(
     )
 }
 
-// All rows, as long as nothing is wrong.
+// What is wrong, told after the words that are there.
+fn noted(text: &[u8], s: State, words: &mut [u8]) -> State
+    requires { ⌜ Held s ⌝ }
+    ensures { λ r. ⌜ (Held r) × (length (now (words .exit)) ≡ length (now (words .entry))) ⌝ }
+{
+    if s.wrong == NOTHING {
+        return s;
+    }
+    let t = to_tell(s);
+    go_past(t, clip_told::tell(text, t, words))
+}
+
+// The text ends: what is missing is told, and samples above the depth's range.
+fn ended(text: &[u8], s: State, words: &mut [u8]) -> State
+    requires { ⌜ Held s ⌝ }
+    ensures { λ r. ⌜ (Held r) × (length (now (words .exit)) ≡ length (now (words .entry))) ⌝ }
+{
+    let mut t = noted(text, finish(s), words);
+    if t.over == 0 {
+        return t;
+    }
+    t.said = clip_told::tell(text, to_warn(t), words);
+    t
+}
+
+// Where reading goes on: in the row, or at the next line.
+fn onward(rest: usize, at: usize, next: usize) -> usize
+    requires { ⌜ at < next ⌝ }
+    ensures { λ r. ⌜ (at < r) × (r ≤ next) ⌝ }
+{
+    if at < rest {
+        if rest < next {
+            return rest;
+        }
+    }
+    next
+}
+
+// All rows; what is wrong in words.
 pub fn take_rows(
     text: &[u8],
     samples: &mut [u16; 4096],
@@ -913,14 +1073,15 @@ pub fn take_rows(
     acs: &mut [u16; 874],
     counts: &mut [u32; 874],
     tokens: &mut [i32; 16384],
+    words: &mut [u8],
 ) -> State
-    ensures { λ r. ⌜ Held r ⌝ }
+    ensures { λ r. ⌜ (Held r) × (length (now (words .exit)) ≡ length (now (words .entry))) ⌝ }
 {
     let mut s = nothing();
     let mut at = clip_rows::first_line(text);
     while at < text.len() {
         let line = clip_rows::next_line(text, at);
-        s = take_line(
+        let t = take_line(
             text,
             at,
             line.end,
@@ -936,10 +1097,11 @@ pub fn take_rows(
             counts,
             tokens,
         );
-        if s.wrong != NOTHING {
+        s = noted(text, t, words);
+        if MOST < s.faults {
             return s;
         }
-        at = line.next;
+        at = onward(s.rest, at, line.next);
     }
-    finish(s)
+    ended(text, s, words)
 }

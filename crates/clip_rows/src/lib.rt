@@ -24,6 +24,12 @@ pub struct Number {
     pub value: u64,
 }
 
+// The separator of a row that is not known yet: any of the three counts.
+pub const ANY: u8 = 0;
+
+// The separator of a row that blanks part.
+pub const BLANK: u8 = b' ';
+
 // A number past this one is past every limit, and keeps its place among them.
 const GREAT: u64 = 1000000000000000000;
 
@@ -62,8 +68,16 @@ pub fn skip_blanks(text: &[u8], at: usize, end: usize) -> usize
     end
 }
 
-// The place of the first byte that a field cannot have.
-fn word_end(text: &[u8], at: usize, end: usize) -> usize
+// Whether a byte is the row's separator; one of the three where that is not known.
+fn parts(b: u8, mark: u8) -> bool {
+    if mark == ANY {
+        return is_mark(b);
+    }
+    b == mark
+}
+
+// The place of the first byte that a word cannot have.
+fn word_end(text: &[u8], at: usize, end: usize, mark: u8) -> usize
     requires { ⌜ (at ≤ end) × (end ≤ length (now text)) ⌝ }
     ensures { λ r. ⌜ (at ≤ r) × (r ≤ end) ⌝ }
 {
@@ -72,7 +86,7 @@ fn word_end(text: &[u8], at: usize, end: usize) -> usize
         if is_blank(text[i]) {
             return i;
         }
-        if is_mark(text[i]) {
+        if parts(text[i], mark) {
             return i;
         }
         i += 1;
@@ -93,8 +107,8 @@ fn past_mark(text: &[u8], at: usize, end: usize) -> usize
     at
 }
 
-// The field at a place: empty where a comma, semicolon or tab is there already.
-pub fn next_field(text: &[u8], at: usize, end: usize) -> Field
+// A row's first field: empty where a comma, semicolon or tab is there already.
+pub fn first_field(text: &[u8], at: usize, end: usize) -> Field
     requires { ⌜ (at < end) × (end ≤ length (now text)) ⌝ }
     ensures { λ r. ⌜ (r .from ≤ r .to) × ((r .to ≤ r .next) × ((at < r .next) × (r .next ≤ end))) ⌝ }
 {
@@ -113,13 +127,105 @@ pub fn next_field(text: &[u8], at: usize, end: usize) -> Field
             next: from + 1,
         };
     }
-    let to = word_end(text, from + 1, end);
+    let to = word_end(text, from + 1, end, ANY);
     let next = past_mark(text, skip_blanks(text, to, end), end);
     Field { from, to, next }
 }
 
-// The line's end without the blanks and empty fields before it.
-pub fn trimmed(text: &[u8], from: usize, end: usize) -> usize
+// Whether the byte after this one is inside quotation marks.
+fn inside(quoted: bool, b: u8) -> bool {
+    if b == b'"' {
+        return !quoted;
+    }
+    quoted
+}
+
+// The place of the next separator outside quotation marks; the end where there is none.
+fn cell_end(text: &[u8], at: usize, end: usize, mark: u8) -> usize
+    requires { ⌜ (at ≤ end) × (end ≤ length (now text)) ⌝ }
+    ensures { λ r. ⌜ (at ≤ r) × (r ≤ end) ⌝ }
+{
+    let mut quoted = false;
+    let mut i = at;
+    while i < end {
+        if !quoted {
+            if parts(text[i], mark) {
+                return i;
+            }
+        }
+        quoted = inside(quoted, text[i]);
+        i += 1;
+    }
+    end
+}
+
+// What parts the fields of a row: its first comma, semicolon or tab outside quotation marks; a blank where there is none.
+pub fn separator(text: &[u8], at: usize, end: usize) -> u8
+    requires { ⌜ (at ≤ end) × (end ≤ length (now text)) ⌝ }
+{
+    let place = cell_end(text, at, end, ANY);
+    if place < end {
+        return text[place];
+    }
+    BLANK
+}
+
+// The field at a place of a row that blanks part.
+fn next_word(text: &[u8], at: usize, end: usize) -> Field
+    requires { ⌜ (at < end) × (end ≤ length (now text)) ⌝ }
+    ensures { λ r. ⌜ (r .from ≤ r .to) × ((r .to ≤ r .next) × ((at < r .next) × (r .next ≤ end))) ⌝ }
+{
+    let from = skip_blanks(text, at, end);
+    if end <= from {
+        return Field {
+            from: end,
+            to: end,
+            next: end,
+        };
+    }
+    let to = word_end(text, from + 1, end, BLANK);
+    Field {
+        from,
+        to,
+        next: skip_blanks(text, to, end),
+    }
+}
+
+// The field at a place of a row with a separator: what stands before the next one, without the blanks around it.
+fn next_cell(text: &[u8], at: usize, end: usize, mark: u8) -> Field
+    requires { ⌜ (at < end) × (end ≤ length (now text)) ⌝ }
+    ensures { λ r. ⌜ (r .from ≤ r .to) × ((r .to ≤ r .next) × ((at < r .next) × (r .next ≤ end))) ⌝ }
+{
+    let stop = cell_end(text, at, end, mark);
+    let from = skip_blanks(text, at, stop);
+    let to = trimmed(text, from, stop, BLANK);
+    if stop < end {
+        return Field {
+            from,
+            to,
+            next: stop + 1,
+        };
+    }
+    Field {
+        from,
+        to,
+        next: end,
+    }
+}
+
+// The field at a place of a row whose fields are parted so.
+pub fn next_field(text: &[u8], at: usize, end: usize, mark: u8) -> Field
+    requires { ⌜ (at < end) × (end ≤ length (now text)) ⌝ }
+    ensures { λ r. ⌜ (r .from ≤ r .to) × ((r .to ≤ r .next) × ((at < r .next) × (r .next ≤ end))) ⌝ }
+{
+    if mark == BLANK {
+        return next_word(text, at, end);
+    }
+    next_cell(text, at, end, mark)
+}
+
+// The end without the blanks and separators before it.
+pub fn trimmed(text: &[u8], from: usize, end: usize, mark: u8) -> usize
     requires { ⌜ (from ≤ end) × (end ≤ length (now text)) ⌝ }
     ensures { λ r. ⌜ (from ≤ r) × (r ≤ end) ⌝ }
 {
@@ -127,13 +233,29 @@ pub fn trimmed(text: &[u8], from: usize, end: usize) -> usize
     while from < stop {
         let b = text[stop - 1];
         if !is_blank(b) {
-            if !is_mark(b) {
+            if !parts(b, mark) {
                 return stop;
             }
         }
         stop -= 1;
     }
     from
+}
+
+// Whether a line ends at a place: with LF, or with CR where no LF follows.
+fn line_ends(text: &[u8], i: usize) -> bool
+    requires { ⌜ i < length (now text) ⌝ }
+{
+    if text[i] == b'\n' {
+        return true;
+    }
+    if text[i] != b'\r' {
+        return false;
+    }
+    if text.len() - i < 2 {
+        return true;
+    }
+    text[i + 1] != b'\n'
 }
 
 // The line at a place.
@@ -143,7 +265,7 @@ pub fn next_line(text: &[u8], at: usize) -> Line
 {
     let mut i = at;
     while i < text.len() {
-        if text[i] == b'\n' {
+        if line_ends(text, i) {
             return Line {
                 end: i,
                 next: i + 1,

@@ -3,15 +3,21 @@ ghost use mathlib.Core.Path.{_≡_};
 ghost use Prim.Native.Nat.{_+_, _*_, _≤_};
 ghost use Rattle.clip_state.specs.Rows.{letterRow, lineAfter};
 ghost use Rattle.clip_state.specs.Inner.{Held};
+use clip_told::EMPTY_TEXT;
+use clip_told::MORE;
 use clip_told::NO_HEADER;
 use clip_told::NO_ROW;
 use clip_told::NOTHING;
+use clip_told::OVER;
 use clip_told::RECORD_ROW;
 use clip_told::SAMPLE_COUNT;
 use clip_told::SAMPLE_ROW;
 use clip_told::State;
 use clip_told::TOKEN_COUNT;
 use clip_told::TOKEN_ROW;
+
+// So many things that are wrong are told, and that there are more.
+pub const MOST: u64 = 20;
 
 // a + b, or the greatest number.
 pub fn plus(a: u64, b: u64) -> u64 {
@@ -28,16 +34,25 @@ pub fn nothing() -> State
     State {
         line: 0,
         row: NO_ROW,
+        mark: 0,
         wrong: NOTHING,
         column: 0,
         from: 0,
         to: 0,
         limit: 0,
+        asked: 0,
+        rest: 0,
+        faults: 0,
+        said: 0,
+        spoiled: false,
         header_line: 0,
         depth: 0,
         width: 0,
         height: 0,
         samples: 0,
+        over: 0,
+        over_line: 0,
+        over_column: 0,
         met: 0,
         records: 0,
         record_line: 0,
@@ -109,23 +124,26 @@ pub fn with_header(s: State, depth: u8, width: u16, height: u16) -> State
     t
 }
 
-// As fail; the line is that of the row that asked for so many.
+// As fail; the line to tell is that of the row that asked for so many.
 pub fn fail_count(s: State, wrong: u8, line: u64) -> State
     requires { ⌜ Held s ⌝ }
     ensures { λ r. ⌜ Held r ⌝ }
 {
     let mut t = s;
     t.wrong = wrong;
-    t.line = line;
+    t.asked = line;
     t
 }
 
-// The samples, or the last record's tokens, are as many as were asked for.
+// The samples, or the last record's tokens, are as many as were asked for; where some are missing for another reason, that was told.
 pub fn close(s: State) -> State
     requires { ⌜ Held s ⌝ }
     ensures { λ r. ⌜ Held r ⌝ }
 {
-    if s.records == 0 {
+    if s.spoiled {
+        return s;
+    }
+    if s.met == 0 {
         let n = vbk_read::plane_area(s.width, s.height) as u64;
         if s.samples == n {
             return s;
@@ -172,6 +190,7 @@ pub fn begin_record(s: State, size: u8, need: usize) -> State
     t.start = s.start + s.need;
     t.need = need;
     t.given = 0;
+    t.spoiled = false;
     t.length = s.length + 11 + 4 * need;
     t
 }
@@ -189,16 +208,60 @@ pub fn next_line(s: State) -> State
     t
 }
 
+// A text without a header, where nothing else is wrong.
+fn headless(s: State) -> State
+    requires { ⌜ Held s ⌝ }
+    ensures { λ r. ⌜ Held r ⌝ }
+{
+    if s.line == 0 {
+        return fail(s, EMPTY_TEXT);
+    }
+    fail(s, NO_HEADER)
+}
+
 // The text ends: there was a header, and what it and the last record asked for.
 pub fn finish(s: State) -> State
     requires { ⌜ Held s ⌝ }
     ensures { λ r. ⌜ Held r ⌝ }
 {
-    if s.wrong != NOTHING {
-        return s;
-    }
-    if s.header_line == 0 {
-        return fail(s, NO_HEADER);
+    if s.faults == 0 {
+        if s.header_line == 0 {
+            return headless(s);
+        }
     }
     close(s)
+}
+
+// What is to be told: past the twentieth, that there is more.
+pub fn to_tell(s: State) -> State
+    requires { ⌜ Held s ⌝ }
+    ensures { λ r. ⌜ Held r ⌝ }
+{
+    if s.faults < MOST {
+        return s;
+    }
+    fail(s, MORE)
+}
+
+// What was wrong is told, and reading goes on.
+pub fn go_past(s: State, said: usize) -> State
+    requires { ⌜ Held s ⌝ }
+    ensures { λ r. ⌜ Held r ⌝ }
+{
+    let mut t = s;
+    t.wrong = NOTHING;
+    t.asked = 0;
+    t.faults = plus(s.faults, 1);
+    t.said = said;
+    t.spoiled = true;
+    t
+}
+
+// The samples above the depth's range, to be told in the line of the first.
+pub fn to_warn(s: State) -> State {
+    let mut t = s;
+    t.row = SAMPLE_ROW;
+    t.wrong = OVER;
+    t.asked = s.over_line;
+    t
 }

@@ -1,4 +1,4 @@
-// What was read of a clip's text, and what is wrong with it, in words: one line with the line's number, the record's, and the fault.
+// What was read of a clip's text, and what is wrong with it, in words: a line for each, with the line's number, the record's, and the fault.
 ghost use Prim.Native.Nat.{_≤_};
 ghost use lib.ListN.{length};
 ghost use Rattle.clip_rows.specs.Rows.{Said};
@@ -57,23 +57,40 @@ pub const REFUSED: u8 = 19;
 
 pub const RETIRED: u8 = 20;
 
+pub const EMPTY_TEXT: u8 = 21;
+
+pub const MORE: u8 = 22;
+
+pub const OVER: u8 = 23;
+
 // What was read of a text, and what is wrong with it.
 pub struct State {
-    // the line and the row that is read; what is wrong there, and the field, its column and its limit
+    // the line and the row that is read, and its separator; what is wrong there, and the field, its column and its limit
     pub line: u64,
     pub row: u8,
+    pub mark: u8,
     pub wrong: u8,
     pub column: u64,
     pub from: usize,
     pub to: usize,
     pub limit: u64,
+    // the line to tell in its place, 0 where it is that line; where the row goes on after a wrong field, 0 where it does not
+    pub asked: u64,
+    pub rest: usize,
+    // how many were told, how long their words are; whether samples or tokens are missing for one of them, so that their count tells nothing
+    pub faults: u64,
+    pub said: usize,
+    pub spoiled: bool,
     // the header: its line, 0 while there is none
     pub header_line: u64,
     pub depth: u8,
     pub width: u16,
     pub height: u16,
-    // samples that were given
+    // samples that were given, and those above the depth's range: how many, and where the first is
     pub samples: u64,
+    pub over: u64,
+    pub over_line: u64,
+    pub over_column: u64,
     // records whose row was met, and those taken; of the last one its line and size, where its tokens begin, how many it needs, how many
     // were given
     pub met: u64,
@@ -89,7 +106,7 @@ pub struct State {
 
 // A byte that can be shown.
 fn shown(b: u8) -> u8 {
-    if b < 33 {
+    if b < 32 {
         return b'?';
     }
     if 126 < b {
@@ -118,24 +135,44 @@ fn say_field(out: &mut [u8], at: usize, text: &[u8], from: usize, to: usize) -> 
     clip_rows::say(out, place, b"'")
 }
 
-// `line 12: record 3: `
+// The line to tell.
+fn line_of(s: State) -> u64 {
+    if s.asked == 0 {
+        return s.line;
+    }
+    s.asked
+}
+
+// `record 3: `, in the rows of a record.
+fn say_record(out: &mut [u8], at: usize, s: State) -> usize
+    requires { ⌜ at ≤ length (now out) ⌝ }
+    ensures { λ r. ⌜ Said (now (out .entry)) r (now (out .exit)) ⌝ }
+{
+    if s.row < RECORD_ROW {
+        return at;
+    }
+    let met = s.met;
+    if met == 0 {
+        return at;
+    }
+    let a = clip_rows::say(out, at, b"record ");
+    let b = clip_rows::say_number(out, a, met - 1);
+    clip_rows::say(out, b, b": ")
+}
+
+// `line 12: record 3: `; nothing for a text without a line.
 fn say_place(out: &mut [u8], at: usize, s: State) -> usize
     requires { ⌜ at ≤ length (now out) ⌝ }
     ensures { λ r. ⌜ Said (now (out .entry)) r (now (out .exit)) ⌝ }
 {
+    let line = line_of(s);
+    if line == 0 {
+        return at;
+    }
     let a = clip_rows::say(out, at, b"line ");
-    let b = clip_rows::say_number(out, a, s.line);
+    let b = clip_rows::say_number(out, a, line);
     let c = clip_rows::say(out, b, b": ");
-    if s.row < RECORD_ROW {
-        return c;
-    }
-    let met = s.met;
-    if met == 0 {
-        return c;
-    }
-    let d = clip_rows::say(out, c, b"record ");
-    let e = clip_rows::say_number(out, d, met - 1);
-    clip_rows::say(out, e, b": ")
+    say_record(out, c, s)
 }
 
 // The name of a number of the header; its column where it has none.
@@ -212,7 +249,7 @@ fn say_below(out: &mut [u8], at: usize, text: &[u8], s: State) -> usize
     say_beyond(out, at, text, s, b" is below ", b"-")
 }
 
-// `x 'abc' is not a number`
+// `x '1.5' is not a whole number`
 fn say_of_field(out: &mut [u8], at: usize, text: &[u8], s: State, words: &[u8]) -> usize
     requires { ⌜ at ≤ length (now out) ⌝ }
     ensures { λ r. ⌜ Said (now (out .entry)) r (now (out .exit)) ⌝ }
@@ -348,6 +385,43 @@ fn say_refused(out: &mut [u8], at: usize, s: State) -> usize
     clip_rows::say_number(out, a, s.limit)
 }
 
+// The largest sample of a depth.
+pub fn top(depth: u8) -> u16 {
+    match depth {
+        8 => 255,
+        10 => 1023,
+        12 => 4095,
+        _ => 65535,
+    }
+}
+
+// `column 2 is`, or `column 2 is the first of 5 samples`
+fn say_first_over(out: &mut [u8], at: usize, s: State) -> usize
+    requires { ⌜ at ≤ length (now out) ⌝ }
+    ensures { λ r. ⌜ Said (now (out .entry)) r (now (out .exit)) ⌝ }
+{
+    let a = say_column(out, at, s.over_column);
+    if s.over == 1 {
+        return clip_rows::say(out, a, b" is");
+    }
+    let b = clip_rows::say(out, a, b" is the first of ");
+    let c = clip_rows::say_number(out, b, s.over);
+    clip_rows::say(out, c, b" samples")
+}
+
+// `warning: column 2 is above 255, the largest of depth 8`
+fn say_over(out: &mut [u8], at: usize, s: State) -> usize
+    requires { ⌜ at ≤ length (now out) ⌝ }
+    ensures { λ r. ⌜ Said (now (out .entry)) r (now (out .exit)) ⌝ }
+{
+    let a = clip_rows::say(out, at, b"warning: ");
+    let b = say_first_over(out, a, s);
+    let c = clip_rows::say(out, b, b" above ");
+    let d = clip_rows::say_number(out, c, words::wide16(top(s.depth)));
+    let e = clip_rows::say(out, d, b", the largest of depth ");
+    clip_rows::say_number(out, e, words::byte64(s.depth))
+}
+
 // What is wrong.
 fn say_wrong(out: &mut [u8], at: usize, text: &[u8], s: State) -> usize
     requires { ⌜ at ≤ length (now out) ⌝ }
@@ -358,7 +432,7 @@ fn say_wrong(out: &mut [u8], at: usize, text: &[u8], s: State) -> usize
         UNKNOWN_ROW => say_row(out, at, text, s),
         HEADER_LATE => clip_rows::say(out, at, b"the first row is VBK,depth,width,height"),
         TWO_HEADERS => say_second(out, at, s),
-        NOT_A_NUMBER => say_of_field(out, at, text, s, b" is not a number"),
+        NOT_A_NUMBER => say_of_field(out, at, text, s, b" is not a whole number"),
         BELOW => say_below(out, at, text, s),
         ABOVE => say_beyond(out, at, text, s, b" is above ", b""),
         TOO_FEW => say_few(out, at, s),
@@ -394,15 +468,29 @@ fn say_wrong(out: &mut [u8], at: usize, text: &[u8], s: State) -> usize
             at,
             b"the text ends, and has no row VBK,depth,width,height",
         ),
+        EMPTY_TEXT => clip_rows::say(out, at, b"the text is empty"),
+        MORE => clip_rows::say(out, at, b"more is wrong, the first 20 are told"),
+        OVER => say_over(out, at, s),
         _ => say_refused(out, at, s),
     }
 }
 
-// The words, at the start of the buffer.
+// The place of the words that come next.
+fn next_words(out: &[u8], s: State) -> usize
+    ensures { λ r. ⌜ r ≤ length (now (out .entry)) ⌝ }
+{
+    let said = s.said;
+    if out.len() < said {
+        return out.len();
+    }
+    said
+}
+
+// A line of words, after those that are told already; the place past it.
 pub fn tell(text: &[u8], s: State, out: &mut [u8]) -> usize
     ensures { λ r. ⌜ Said (now (out .entry)) r (now (out .exit)) ⌝ }
 {
-    let at = say_place(out, 0, s);
+    let at = say_place(out, next_words(out, s), s);
     let end = say_wrong(out, at, text, s);
     clip_rows::say(out, end, b"\n")
 }

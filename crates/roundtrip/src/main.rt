@@ -25,14 +25,14 @@ fn same(a: &[u8], b: &[u8]) -> bool {
 // The file made of the text, beside the file that the text was made of.
 fn back(file: &[u8], text: &[u8]) {
     let mut out = io::large_buffer();
-    let made = clip_make::make(text, &mut out);
-    let made_of = clip_io::front(&out, made.length);
+    let mut words = io::buffer();
+    let made = clip_make::make(text, &mut out, &mut words);
     if !made.good {
         put(b"text refused: ");
-        put(made_of);
+        put(clip_io::front(&words, made.said));
         return;
     }
-    if same(file, made_of) {
+    if same(file, clip_io::front(&out, made.length)) {
         put(b"the same file\n");
     } else {
         put(b"another file\n");

@@ -7,8 +7,12 @@ const FULL: usize = 1048576;
 // The file of the first n bytes.
 fn make(text: &[u8; 1048576], n: usize) {
     let mut out = io::large_buffer();
-    let made = clip_make::make(clip_io::front(text, n), &mut out);
-    clip_io::hand_out(made.good, clip_io::front(&out, made.length));
+    let mut words = io::buffer();
+    let made = clip_make::make(clip_io::front(text, n), &mut out, &mut words);
+    clip_io::tell(clip_io::front(&words, made.said));
+    if made.good {
+        clip_io::put_out(clip_io::front(&out, made.length));
+    }
 }
 
 fn main() {
@@ -22,5 +26,6 @@ fn main() {
         clip_io::tell(b"the text could not be read to its end\n");
         return;
     }
-    make(&text, n);
+    let m = clip_io::in_bytes(&mut text, n);
+    make(&text, m);
 }

@@ -1,5 +1,5 @@
 use borrow.Author.Needs.{needs}
-use Rattle.clip_make.proofs.File.{words-made}
+use Rattle.clip_make.proofs.File.{none-made, told-before}
 use Rattle.clip_make.proofs.make.Statement.{statement}
 use Rattle.clip_make.proofs.make.Tie as tie
 
@@ -20,7 +20,8 @@ make-spec =
     (λ c κs. search needs)
     (λ c κs. search needs)
     (λ c. search needs)
-    (λ c. search (needs, words-made))
+    (λ c. search (needs, none-made))
     (λ c κs. search needs)
     (λ c. search needs)
-    (λ c. search needs))
+    (λ c. search needs)
+    (λ c. search (needs, told-before)))

@@ -6,10 +6,10 @@ use Rattle.clip_parse.proofs.take_samples.Statement.{statement}
 use Rattle.clip_parse.proofs.take_samples.Tie as tie
 
 abbrev Inv-loop : tie.InvT-loop
-Inv-loop text at end samples₀ t₀ next₀ column₀ samples t next column = (Held t) × ((next ≤ end) × (end ≤ length text))
+Inv-loop text at end samples₀ t₀ next₀ samples t next = (Held t) × ((next ≤ end) × (end ≤ length text))
 
 abbrev μ-loop : tie.MeasureT-loop
-μ-loop text at end samples₀ t₀ next₀ column₀ samples t next column = end - next
+μ-loop text at end samples₀ t₀ next₀ samples t next = end - next
 
 pub take-samples-spec : {M : Type 1} → statement M
 take-samples-spec =

@@ -6,10 +6,10 @@ use Rattle.clip_parse.proofs.take_tokens.Statement.{statement}
 use Rattle.clip_parse.proofs.take_tokens.Tie as tie
 
 abbrev Inv-loop : tie.InvT-loop
-Inv-loop text at end columns tokens₀ t₀ next₀ column₀ tokens t next column = (Held t) × ((next ≤ end) × (end ≤ length text))
+Inv-loop text at end tokens₀ t₀ next₀ tokens t next = (Held t) × ((next ≤ end) × (end ≤ length text))
 
 abbrev μ-loop : tie.MeasureT-loop
-μ-loop text at end columns tokens₀ t₀ next₀ column₀ tokens t next column = end - next
+μ-loop text at end tokens₀ t₀ next₀ tokens t next = end - next
 
 pub take-tokens-spec : {M : Type 1} → statement M
 take-tokens-spec =

@@ -4,10 +4,10 @@ use Rattle.clip_rows.proofs.trimmed.Statement.{statement}
 use Rattle.clip_rows.proofs.trimmed.Tie as tie
 
 abbrev Inv-loop : tie.InvT-loop
-Inv-loop text from end stop₀ stop = (from ≤ stop) × (stop ≤ end)
+Inv-loop text from end mark stop₀ stop = (from ≤ stop) × (stop ≤ end)
 
 abbrev μ-loop : tie.MeasureT-loop
-μ-loop text from end stop₀ stop = stop - from
+μ-loop text from end mark stop₀ stop = stop - from
 
 pub trimmed-spec : {M : Type 1} → statement M
 trimmed-spec =

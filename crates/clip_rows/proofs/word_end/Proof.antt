@@ -4,10 +4,10 @@ use Rattle.clip_rows.proofs.word_end.Statement.{statement}
 use Rattle.clip_rows.proofs.word_end.Tie as tie
 
 abbrev Inv-loop : tie.InvT-loop
-Inv-loop text at end i₀ i = (at ≤ i) × (i ≤ end)
+Inv-loop text at end mark i₀ i = (at ≤ i) × (i ≤ end)
 
 abbrev μ-loop : tie.MeasureT-loop
-μ-loop text at end i₀ i = end - i
+μ-loop text at end mark i₀ i = end - i
 
 pub word-end-spec : {M : Type 1} → statement M
 word-end-spec =
