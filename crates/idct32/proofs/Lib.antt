@@ -4,3 +4,4 @@ pub mod Small
 pub mod Answers
 mod Told
 mod Flat
+mod Front

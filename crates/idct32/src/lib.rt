@@ -149,13 +149,17 @@ fn columns(work: &mut [i16; 1024], n: u32, tx_type: u8, lossless: bool) -> bool
     tested::columns(work, n, column_kind(tx_type, lossless))
 }
 
-// Rows and columns of a block of few magnitudes, with no test on the way.
+// Rows and columns of a block of few magnitudes, with no test on the way, by strips of eight columns.
 fn both(work: &mut [i16; 1024], n: u32, tx_type: u8)
     requires { ⌜ Possible n «tx_type» false × (3 ≤ n) × (length (now work) ≡ 1024) × (total (area n) (now work) ≤ 31883) ⌝ }
     ensures { λ _. ⌜ now (work .exit) ≡ columns (apply (columnPass «tx_type» false) n) (λ z. z) (side n) (rows (apply (rowPass «tx_type» false) n) (side n) (now (work .entry))) ⌝ }
 {
-    narrow_lines::rows(work, n, blocks::row_dct(tx_type));
-    narrow_lines::columns(work, n, blocks::column_dct(tx_type));
+    let mut z = narrow_lines::zeros();
+    let strips = answers::side(n) / 8;
+    narrow_lines::to_strips(&mut z, work, n);
+    narrow_lines::rows(&mut z, n, blocks::row_dct(tx_type), strips);
+    narrow_lines::columns(&mut z, n, blocks::column_dct(tx_type));
+    narrow_lines::from_strips(work, &z, n);
 }
 
 // Rows, then columns, not rounded; false where a number leaves 16 bits. Almost every block of a stream has so few magnitudes that none does: a law.

@@ -2,13 +2,13 @@
 // form that tests it.
 ghost use mathlib.Core.Path.{_≡_};
 ghost use mathlib.Core.Bool.{true, false};
-ghost use Prim.Native.Nat.{ℕ, _+_, _≤_, _<_};
+ghost use Prim.Native.Nat.{_<_};
 ghost use lib.IntN.{pos};
-ghost use lib.ListN.{length, getD};
+ghost use lib.ListN.{getD};
 ghost use Rattle.whole.specs.Round.{Round2};
 ghost use Rattle.whole.specs.Within.{Within};
 ghost use Rattle.primitives.specs.Rotations.{setPair};
-ghost use Rattle.steps.specs.Step.{Hd, Neg, Move, step};
+ghost use Rattle.steps.specs.Step.{Hd, Neg, step};
 ghost use Rattle.steps.specs.Step2.{SH, step2};
 ghost use Rattle.adst.specs.Inner.{arrays};
 ghost use Rattle.narrow.specs.Kept.{short};
@@ -148,15 +148,4 @@ pub fn fsh16(t: &mut [i16; 32], s: &[i32; 16], a: usize, b: usize)
     let x = round14(p + q);
     let y = round14(p - q);
     put16(t, a, b, x, y, false);
-}
-
-// t[i] = copy_t[from[at + i]] for i below n0. The table is lent: it folds away where the caller has it whole.
-pub fn reorder16(t: &mut [i16; 32], from: &[usize], at: usize, n0: usize)
-    requires { ⌜ (n0 ≤ 32) × (at + n0 ≤ length (now from)) × ((i : ℕ) → i < n0 → getD (now from) (at + i) 0 < 32) ⌝ }
-    ensures { λ _. ⌜ now (t .exit) ≡ step (Move n0 (λ i. getD (now (from .entry)) (at + i) 0)) (now (t .entry)) ⌝ }
-{
-    let copy_t = *t;
-    for i in 0..n0 {
-        t[i] = copy_t[from[at + i]];
-    }
 }

@@ -1,5 +1,5 @@
 pub mod Tiles
-mod Strips
+pub mod Strips
 mod Rounding
 mod Absolute
 mod Orders
