@@ -39,7 +39,7 @@ use Rattle.plane.proofs.Row.{inside-yes, inside-is}
 use Rattle.plane.proofs.Block.{after-length, after-at, row-of, column-of, place-of, row-in-plane, off-rows, off-columns, on-block}
 use Rattle.reconstruct.specs.Reconstruct.{largest, badQuantizers, badPlane, badCoefficient, answerOf, residual, added, samplesAfter, Reconstructed}
 use Rattle.tokens.proofs.Above.{dequant-abs}
-use Rattle.reconstruct.proofs.Residual.{none-live}
+use Rattle.report.proofs.Good.{none-below}
 use Rattle.reconstruct.proofs.Table.{done}
 use Rattle.laws.specs.Lossless.{Coded, Shown, placeIn, Lossless, decoding, Restored, differencesOf}
 
@@ -90,7 +90,7 @@ sum-back top a b h =
 -- ---- what the tables ask
 no-beyond : (m n : ℕ) (l : List ℤ) → ((k : ℕ) → k < n → natAbs (getD l k (pos 0)) ≤ m) → anyBeyond m n l ≡ false
 unfolding anyBeyond
-no-beyond m n l h = none-live _ n (λ k q. le-ltb m (natAbs (getD l k (pos 0))) (h k q))
+no-beyond m n l h = none-below _ n (λ k q. le-ltb m (natAbs (getD l k (pos 0))) (h k q))
 
 small : (depth : ℕ) → badDepth depth ≡ false → largest depth ≤ WHT_LIMIT
 small = by-depth (λ depth. largest depth ≤ WHT_LIMIT) (omega arith) (omega arith) (omega arith)

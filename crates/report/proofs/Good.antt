@@ -40,7 +40,7 @@ shares-least c m (suc n) tokens h =
     let d : shares one c (suc n) tokens * m ≡ shares one c n tokens * m + share one c t * m = ap (λ (x : ℕ). x * m) b ∙ NatL.add-mul (shares one c n tokens) (share one c t) m in
     omega (arith, a, d, shares-least c m n tokens (λ i l. h i (omega arith)), share-least c m t (h n (omega arith)))
 
-none-below : (p : ℕ → Bool) (n : ℕ) → ((k : ℕ) → k < n → p k ≡ false) → anyBelow p n ≡ false
+pub none-below : (p : ℕ → Bool) (n : ℕ) → ((k : ℕ) → k < n → p k ≡ false) → anyBelow p n ≡ false
 none-below p zero h = any-none p
 none-below p (suc n) h = rw add-one at (any-more p n (none-below p n (λ k l. h k (omega arith))) (h n (omega arith)))
 
