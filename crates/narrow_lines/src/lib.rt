@@ -43,13 +43,17 @@ fn spot(n0: usize, i: usize, k: usize, down: bool) -> usize
     place(n0, i, k)
 }
 
-// Line i into the first places of t. Where n0 and `down` are literals, the loop unrolls and every index folds.
+// Line i into the first places of t. Where n0 and `down` are literals, two loops of few turns unroll and every index folds; one of 32 turns does so
+// on one of the two processors only.
 fn load(t: &mut [i16; 32], z: &[i16; 1024], i: usize, n0: usize, down: bool)
     requires { ⌜ Whole n0 × (i < n0) × (now t ≡ replicate 32 (pos 0)) ⌝ }
     ensures { λ _. ⌜ now (t .exit) ≡ lineOf «down» n0 i (raster n0 (now (z .entry))) ⌝ }
 {
-    for k in 0..n0 {
-        t[k] = z[spot(n0, i, k, down)];
+    for a in 0..n0 / 8 {
+        for b in 0..8usize {
+            let k = 8 * a + b;
+            t[k] = z[spot(n0, i, k, down)];
+        }
     }
 }
 
@@ -58,8 +62,11 @@ fn store(z: &mut [i16; 1024], t: &[i16; 32], i: usize, n0: usize, down: bool)
     requires { ⌜ Whole n0 × (i < n0) × (length (now z) ≡ 1024) ⌝ }
     ensures { λ _. ⌜ Holds n0 (setLine (λ z. z) (start «down» n0 i) (gap «down» n0) n0 (now (t .entry)) (raster n0 (now (z .entry)))) (now (z .exit)) ⌝ }
 {
-    for k in 0..n0 {
-        z[spot(n0, i, k, down)] = t[k];
+    for a in 0..n0 / 8 {
+        for b in 0..8usize {
+            let k = 8 * a + b;
+            z[spot(n0, i, k, down)] = t[k];
+        }
     }
 }
 
