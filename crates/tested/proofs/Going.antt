@@ -16,14 +16,14 @@ use Rattle.adst.specs.Adst.{onT, adst}
 use Rattle.adst.specs.Inner.{arrays}
 use Rattle.wht.specs.Wht.{whtRow, wht}
 use Rattle.narrow.specs.Kept.{shorts, always, kept, kept2}
-use Rattle.narrow.specs.Inner.{fits2, reach}
+use Rattle.narrow.specs.Inner.{fits, fits2, reach}
 use Rattle.narrow.proofs.Tried.{all-passed, end}
-use Rattle.narrow.proofs.Safe.{Safe, safe-begin, safe-next, safe-stop}
+use Rattle.narrow.proofs.Safe.{Safe, safe-begin, safe-next, safe-stop, told-T}
 use Rattle.blocks.specs.Inverse as I
 use Rattle.blocks.specs.Inverse.{Pass, Wht, apply}
 use Rattle.weights.specs.Line.{keptLine}
 use Rattle.tested.specs.Line.{Sized, passOf, stepsOf, Line}
-use Rattle.tested.specs.Inner.{stepOf, Told}
+use Rattle.tested.specs.Inner.{Told}
 use Rattle.tested.specs.declared.Kind.{Kind}
 use Rattle.tested.proofs.Lists.{all-placed}
 
@@ -68,8 +68,8 @@ module _ (k : Kind) (n : ℕ) {t₀ t s : List ℤ} {i : ℕ} (h : Sized k n) (g
   pub going-room : (2 ^ n ≤ length t) × AllWithin reach s
   going-room = subst (λ (u : Arrays). (2 ^ n ≤ length (u .T)) × AllWithin reach (u .S)) (g .here) (g .safe .good .long, g .safe .good .near)
 
-  module _ (l : i < length (stepsOf (passOf k) n)) (e : ℕ) (q : stepOf n e ≡ getD (stepsOf (passOf k) n) i (on A4)) {t′ s′ : List ℤ} {r : Bool}
-      (o : Told step2 fits2 (stepOf n e) (arrays t s) r (arrays t′ s′)) where
+  module _ (l : i < length (stepsOf (passOf k) n)) {x : Step2} (q : x ≡ getD (stepsOf (passOf k) n) i (on A4)) {t′ s′ : List ℤ} {r : Bool}
+      (o : Told step2 fits2 x (arrays t s) r (arrays t′ s′)) where
     pub going-next : not r ≡ false → Going (passOf k) n t₀ (i + 1) t′ s′
     going-next f =
         rw (add-one i) (record { safe = safe-next (all-placed k n h) (g .safe) l (told-as q (sym (g .here)) o) f; start = g .start; here = refl })
@@ -87,3 +87,23 @@ going-end p n {t₀} {t} {s} {i} g e =
     let b : kept2 (2 ^ n) ss (fresh t₀) ≡ true = rw (g .start) at (g .safe .asks ∙ all-passed w all) in
     let q : arrays t s ≡ run step2 ss (fresh t₀) = rw (g .start, g .here) at (end w all) in
     record { is = sym (sym (kept-line p n t₀) ∙ b); made = λ _. ap (λ (u : Arrays). u .T) q ∙ line-is p n t₀ }
+
+-- ---- steps of T by themselves: step i of a line is x
+pub record Nth (p : Pass) (n i : ℕ) (x : Step) : Type 0 where
+  pub within : i < length (stepsOf p n)
+  pub is : on x ≡ getD (stepsOf p n) i (on A4)
+
+module _ (k : Kind) (n : ℕ) {t₀ t s : List ℤ} {i : ℕ} {x : Step} (h : Sized k n) (g : Going (passOf k) n t₀ i t s) (e : Nth (passOf k) n i x) {t′ : List ℤ} where
+  told-on : {r : Bool} → Told step fits x t r t′ → Told step2 fits2 (on x) (arrays t s) r (arrays t′ s)
+  told-on o = told-T (on x) (arrays t s) refl o
+
+  pub on-next : {r : Bool} → Told step fits x t r t′ → not r ≡ false → Going (passOf k) n t₀ (i + 1) t′ s
+  on-next o f = going-next k n h g (e .within) (e .is) (told-on o) f
+
+  pub on-stop : {r : Bool} {u : List ℤ} → Told step fits x t r t′ → not r ≡ true → Line (passOf k) n t₀ false u
+  on-stop o f = going-stop k n h g (e .within) (e .is) (told-on o) f
+
+  -- the last step's answer is the line's
+  pub on-last : (r : Bool) → Told step fits x t r t′ → length (stepsOf (passOf k) n) ≤ i + 1 → Line (passOf k) n t₀ r t′
+  on-last true o l = going-end (passOf k) n (on-next o refl) l
+  on-last false o l = on-stop o refl

@@ -20,7 +20,7 @@ ghost use Rattle.narrow.specs.Kept.{short, shorts};
 ghost use Rattle.narrow.specs.Inner.{shortPair, spinFits, spin, Turns, fits, fits2, reach};
 ghost use Rattle.blocks.specs.Block.{line, rows, columns};
 ghost use Rattle.blocks.specs.Inner.{setLine, changeLine};
-ghost use Rattle.blocks.specs.Inverse.{apply};
+ghost use Rattle.blocks.specs.Inverse.{Dct, apply};
 ghost use Rattle.weights.specs.Inner.{Keeps};
 ghost use Rattle.tested.specs.Line.{passOf, stepsOf, Sized, Line, RowsKeep, ColumnsKeep, Tells};
 ghost use Rattle.tested.specs.Inner.{stepOf, angleAt, known, OfAngle, ready, Told, Tables, firstOf};
@@ -495,11 +495,45 @@ fn count(n: u32, kind: Kind) -> usize
     }
 }
 
+// The DCT of 4 numbers, step by step.
+fn dct4(t: &mut [i16; 32]) -> bool
+    requires { ⌜ (4 ≤ length (now t)) × (shorts 4 (now t) ≡ true) ⌝ }
+    ensures { λ r. ⌜ Line Dct 2 (now (t .entry)) r (now (t .exit)) ⌝ }
+{
+    reverse(t, 2);
+    if !turn(t, 0, 1, 16, true) {
+        return false;
+    }
+    if !turn(t, 2, 3, 24, false) {
+        return false;
+    }
+    if !sums(t, 0, 3) {
+        return false;
+    }
+    sums(t, 1, 2)
+}
+
+// A line of 4 numbers, with no table: a third of the blocks of a video are 4 by 4.
+fn line4(t: &mut [i16; 32], kind: Kind) -> bool
+    requires { ⌜ (4 ≤ length (now t)) × (shorts 4 (now t) ≡ true) ⌝ }
+    ensures { λ r. ⌜ Line (passOf kind) 2 (now (t .entry)) r (now (t .exit)) ⌝ }
+{
+    match kind {
+        Kind::Dct => dct4(t),
+        Kind::Adst => adst4(t),
+        Kind::WhtRow => wht4(t, 2),
+        Kind::WhtColumn => wht4(t, 0),
+    }
+}
+
 // The inverse transform of the first 2^n numbers of t: true where they and every number on the way are of 16 bits. Where false, t is as it came to be.
 fn line(t: &mut [i16; 32], steps: &[u32; 173], n: u32, kind: Kind) -> bool
     requires { ⌜ Tables (now steps) × Sized kind n × (2 ^ n ≤ length (now t)) × (shorts (2 ^ n) (now t) ≡ true) ⌝ }
     ensures { λ r. ⌜ Line (passOf kind) n (now (t .entry)) r (now (t .exit)) ⌝ }
 {
+    if n == 2 {
+        return line4(t, kind);
+    }
     let at = first(n, kind);
     let mut s = [0i32; 16];
     for i in 0..count(n, kind) {

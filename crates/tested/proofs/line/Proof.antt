@@ -1,13 +1,15 @@
 -- `tested::line` meets its contract: one invariant over the place in the list. The loop does not know the kind, so it says this of every kind whose steps these are.
-use mathlib.Core.Path.{_≡_}
-use Prim.Native.Nat.{ℕ, _+_, _-_, _≤_, _<_}
+use mathlib.Core.Path.{_≡_, ap, subst, sym}
+use mathlib.Core.Bool.{true}
+use Prim.Native.Nat.{ℕ, _+_, _-_, _≤_, _<_, _^_}
 use native.Mathlib.Omega.{arith}
 use lib.Dec.{T}
 use lib.ListN.{length, getD}
 use borrow.Author.Needs.{needs}
 use Rattle.steps.specs.Step.{A4}
 use Rattle.steps.specs.Step2.{on}
-use Rattle.tested.specs.Line.{passOf, stepsOf, Sized}
+use Rattle.narrow.specs.Kept.{shorts}
+use Rattle.tested.specs.Line.{passOf, stepsOf, Sized, Line}
 use Rattle.tested.specs.Inner.{stepOf, ready, firstOf}
 use Rattle.tested.specs.declared.Kind.{Kind}
 use Rattle.tested.proofs.Lists.{at-most, in-table, entry}
@@ -27,7 +29,7 @@ module _ (c : tie.In-loop Inv-loop μ-loop) where
   loop = c .before
 
   abbrev start : tie.Start Inv-loop μ-loop
-  start = loop .before .before .before
+  start = loop .before .before .before .before
 
   abbrev n : ℕ
   n = start .args .n
@@ -64,11 +66,11 @@ apply-requires c κs =
     let g = going-room (kind l) (n l) h (going l) in
     (m .0, m .1, is l (kind l) h (loop l .before .before .first .ensures) (here l) .1, omega (arith, m .2, g .0), g .1)
 
-returns : tie.Need-returns Inv-loop μ-loop
-returns c =
+returns-2 : tie.Need-returns-2 Inv-loop μ-loop
+returns-2 c =
     let l = c .before .before .before .before .before in
     let h = start l .pre .1 in
-    going-stop (kind l) (n l) h (going l) (here l) (e l) (is l (kind l) h (loop l .before .before .first .ensures) (here l) .0) (c .before .apply .ensures) (c .if1 .taken)
+    going-stop (kind l) (n l) h (going l) (here l) (is l (kind l) h (loop l .before .before .first .ensures) (here l) .0) (c .before .apply .ensures) (c .if2 .taken)
 
 loop-again : tie.Need-loop-again Inv-loop μ-loop
 loop-again c =
@@ -76,13 +78,13 @@ loop-again c =
       omega arith,
       λ k h q z.
           let m : i l < length (stepsOf (passOf k) (n l)) = omega (arith, z, l .loop-test .taken) in
-          going-next k (n l) h (loop l .loop .inv .1 k h q z) m (e l) (is l k h q m .0) (c .before .apply .ensures) (c .if1 .left),
+          going-next k (n l) h (loop l .loop .inv .1 k h q z) m (is l k h q m .0) (c .before .apply .ensures) (c .if2 .left),
     )
 
-returns-2 : tie.Need-returns-2 Inv-loop μ-loop
-returns-2 c =
+returns-3 : tie.Need-returns-3 Inv-loop μ-loop
+returns-3 c =
     let w = c .before in
-    let s = w .before .before .before in
+    let s = w .before .before .before .before in
     going-end _ (s .args .n) (w .loop .inv .1 (s .args .kind) (s .pre .1) (w .before .before .first .ensures) (w .before .count .ensures)) (omega (arith, w .before .count .ensures))
 
 pub line-spec : {M : Type 1} → statement M
@@ -91,15 +93,17 @@ line-spec =
     (tie.spec
     Inv-loop
     μ-loop
-    (λ c κs. c .pre .1)
+    (λ c κs. let s = c .before .before in subst (λ (m : ℕ). (m ≤ length (s .args .t .now)) × (shorts m (s .args .t .now) ≡ true)) (ap (λ (m : ℕ). 2 ^ m) (c .before .if1 .taken)) (s .pre .2, s .pre .3))
+    (λ c. let s = c .before .before .before in subst (λ (m : ℕ). Line (passOf (s .args .kind)) m (s .args .t .now) (c .line4 .result) (c .line4 .last .0)) (sym (c .before .before .if1 .taken)) (c .line4 .ensures))
     (λ c κs. c .before .pre .1)
-    (λ c. let s = c .before .before in (omega arith, λ k h _ _. going-begin k (s .args .n) (s .args .t .now) h (s .pre .2) (s .pre .3)))
+    (λ c κs. c .before .before .pre .1)
+    (λ c. let s = c .before .before .before in (omega arith, λ k h _ _. going-begin k (s .args .n) (s .args .t .now) h (s .pre .2) (s .pre .3)))
     (λ c. let h = inside (c .before .before) in search needs)
     (λ c. let h = inside (c .before .before) in search needs)
     (λ c. inside (c .before .before))
     apply-requires
-    returns
+    returns-2
     (λ c. search needs)
     (λ c. search needs)
     loop-again
-    returns-2)
+    returns-3)
