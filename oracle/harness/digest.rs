@@ -422,10 +422,65 @@ fn file(key: u64, d: &mut Digest) {
     d.list(vbk::text(&run).into_bytes().into_iter().map(i64::from));
 }
 
+/// A file that lists make: mostly whole ones, some of lists that do not fit each other, some into too little room. Behind a file that is written,
+/// and in the place of one that is not, sixteen bytes of the room.
+fn written(key: u64, d: &mut Digest) {
+    let side = |r: u64| match r % 64 {
+        0 => 0,
+        1 => 4097,
+        _ => r / 64 % 16 + 1,
+    };
+    let (width, height) = (side(draw(key, 1)), side(draw(key, 2)));
+    let of = |k: u64, place: u64| draw(draw(draw(key, 6), k), place);
+    let (records, odd) = (draw(key, 7) % 4, draw(key, 8));
+    let list = |number: u64, entry: &dyn Fn(u64) -> u64| -> Vec<i64> {
+        let one_more = odd % 16 == 0 && odd / 16 % 8 == number;
+        (0..records + u64::from(one_more)).map(|k| entry(k) as i64).collect()
+    };
+    let two = |place: u64| move |k: u64| of(k, place) % 65_536;
+    let size = |k: u64| size(of(k, 1));
+    let flag = |k: u64| match of(k, 5) {
+        r if r % 64 == 0 => r / 64 % 256,
+        _ => u64::from(of(k, 6) % 2 == 0),
+    };
+    let brought = |k: u64| match of(k, 9) {
+        r if r % 64 == 0 => r / 64 % 1025,
+        _ => rules::area(if size(k) > 3 { 0 } else { size(k) }) as u64,
+    };
+    let counts = list(7, &brought);
+    let tokens = counts.iter().sum::<i64>() as u64 + u64::from(draw(key, 10) % 64 == 0);
+    let token = |r: u64| [-2_147_483_648, -1, -74_565].get((r % 8) as usize).copied().unwrap_or((r / 8 % (1 << 31)) as i64);
+    let lists = [
+        (0..width % 64 * (height % 64)).map(|i| sample(draw(draw(key, 4), i), draw(key, 5) % 4).into()).collect(),
+        list(0, &two(2)),
+        list(1, &two(3)),
+        list(2, &|k| u64::from(size(k) as u8)),
+        list(3, &|k| of(k, 4) % 256),
+        list(4, &flag),
+        list(5, &two(7)),
+        list(6, &two(8)),
+        counts,
+        (0..tokens.min(4096)).map(|i| token(draw(draw(key, 9), i))).collect(),
+    ];
+    let r = draw(key, 11);
+    let mut room = vec![165u8; if r % 4 == 0 { (r / 4 % 1024) as usize } else { 16_384 }];
+    let depth = u32::from(depth(draw(key, 3)) as u8);
+    let (answer, length) = match vbk::write(depth, width as u16, height as u16, &lists, room.len()) {
+        Ok(file) => {
+            room[..file.len()].copy_from_slice(&file);
+            (0, file.len())
+        }
+        Err(answer) => (answer, 0),
+    };
+    d.feed(answer.into());
+    d.feed(length as u64);
+    d.list(room.iter().take(length + 16).map(|b| i64::from(*b)));
+}
+
 type Kind = fn(u64, &mut Digest);
 
 /// The kinds of calls. A new one is added at the end.
-const KINDS: [(&str, Kind); 15] = [
+const KINDS: [(&str, Kind); 16] = [
     ("inverse_transform_2d", |key, d| driver(key, d, Driver::Fast)),
     ("inverse_transform_2d_reference", |key, d| driver(key, d, Driver::Reference)),
     ("reconstruct_block", |key, d| block(key, d, false)),
@@ -441,6 +496,7 @@ const KINDS: [(&str, Kind); 15] = [
     ("inverse_transform_2d_32", |key, d| driver(key, d, Driver::Engine32)),
     ("forward_dct_2d", |key, d| driver(key, d, Driver::Forward)),
     ("quantize_block_rule", |key, d| quantize(key, d, Coder::Ruled)),
+    ("vbk_write", written),
 ];
 
 pub fn print(seed: u64, count: u64) {

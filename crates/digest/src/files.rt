@@ -42,7 +42,7 @@ fn put32(file: &mut [u8], at: usize, value: u64) -> usize {
 }
 
 // A width or height: 1 to 16, seldom 0 or more than a file may have.
-fn side(r: u64) -> u64 {
+pub fn side(r: u64) -> u64 {
     match r % 64 {
         0 => 0,
         1 => 4097,
@@ -90,7 +90,7 @@ fn put_tokens(file: &mut [u8], from: usize, key: u64, count: usize) -> usize
 }
 
 // A byte that is 0 or 1, seldom more.
-fn flag(r: u64, lossless: bool) -> u64 {
+pub fn flag(r: u64, lossless: bool) -> u64 {
     if r % 64 == 0 {
         return r / 64 % 256;
     }

@@ -6,13 +6,14 @@ mod files;
 mod reports;
 mod rows;
 mod samples;
+mod written;
 
 use libc::STDERR_FILENO;
 use libc::STDIN_FILENO;
 use libc::STDOUT_FILENO;
 
 // Kinds of calls. A new one is added at the end.
-const KINDS: u64 = 15;
+const KINDS: u64 = 16;
 
 // The digest after one call more.
 fn one(kind: u64, key: u64, digest: u64) -> u64 {
@@ -31,7 +32,8 @@ fn one(kind: u64, key: u64, digest: u64) -> u64 {
         11 => rows::inverse_transform_2d_rows(key, digest),
         12 => drivers::engine32(key, digest),
         13 => drivers::forward_dct(key, digest),
-        _ => coder::quantize_rule(key, digest),
+        14 => coder::quantize_rule(key, digest),
+        _ => written::write(key, digest),
     }
 }
 
@@ -63,7 +65,8 @@ fn name(kind: u64) -> bool {
         11 => io::write_all(STDOUT_FILENO, b"inverse_transform_2d_rows      "),
         12 => io::write_all(STDOUT_FILENO, b"inverse_transform_2d_32        "),
         13 => io::write_all(STDOUT_FILENO, b"forward_dct_2d                 "),
-        _ => io::write_all(STDOUT_FILENO, b"quantize_block_rule            "),
+        14 => io::write_all(STDOUT_FILENO, b"quantize_block_rule            "),
+        _ => io::write_all(STDOUT_FILENO, b"vbk_write                      "),
     }
 }
 

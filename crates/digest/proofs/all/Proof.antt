@@ -7,7 +7,7 @@ abbrev Inv-loop : tie.InvT-loop
 Inv-loop seed count digest₀ written₀ kind₀ t7 digest written kind = Unit {0}
 
 abbrev μ-loop : tie.MeasureT-loop
-μ-loop seed count digest₀ written₀ kind₀ t7 digest written kind = 15 - kind
+μ-loop seed count digest₀ written₀ kind₀ t7 digest written kind = 16 - kind
 
 pub all-spec : {M : Type 1} → statement M
 all-spec =
