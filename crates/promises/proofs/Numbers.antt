@@ -20,7 +20,8 @@ use Rattle.basis.specs.Basis.{basisAt}
 use Rattle.summary.specs.Summary.{those, mask, isSet, setRows, liveRows, summaryOf}
 use Rattle.summary.specs.Replace as Z
 use Rattle.idct.specs.Driver as D
-use Rattle.idct32.specs.Engine.{every, keptLine, keptRows, keptColumns, within16, widthAnswer, answerOf32}
+use Rattle.weights.specs.Line.{keptLine}
+use Rattle.idct32.specs.Engine.{every, keptRows, keptColumns, within16, widthAnswer, answerOf32}
 use Rattle.fwd_transform.specs.Quantize as Q
 use Rattle.fwd_dct.specs.Sum.{sum}
 use Rattle.fwd_dct.specs.Forward as F
