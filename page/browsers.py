@@ -51,7 +51,7 @@ class Chromium:
         self.driver.execute_cdp_cmd("Emulation.setDeviceMetricsOverride", emulated)
         colour = {"name": "prefers-color-scheme", "value": "dark" if dark else "light"}
         self.driver.execute_cdp_cmd("Emulation.setEmulatedMedia", {"features": [colour]})
-        self.ask("document.querySelector('#files [aria-pressed=true]').click(); requestAnimationFrame(() => arguments[0](null));")
+        self.ask("const done = arguments[0]; requestAnimationFrame(() => requestAnimationFrame(() => setTimeout(done, 100, null)));")
         taken = self.driver.execute_cdp_cmd("Page.captureScreenshot", {"format": "png", "captureBeyondViewport": True})
         write(path, base64.b64decode(taken["data"]))
 

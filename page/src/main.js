@@ -63,6 +63,7 @@ function show(file) {
   byId("details").hidden = true;
   byId("copied").textContent = "";
   byId("text").value = file.run.text;
+  byId("text").scrollTop = 0;
   for (const button of byId("files").querySelectorAll("button")) button.setAttribute("aria-pressed", String(button.file === file));
   if (!good) return;
   byId("summary").textContent = summary(file);
@@ -70,7 +71,7 @@ function show(file) {
   showPlanes(file, chosen, open);
   showEdge(file);
   showFilter(file);
-  showRows(file, chosen, open);
+  showRows(file, () => chosen, open);
   showClasses(file);
   showTouched(file);
   if (file.narrow.length > 0) open(file.narrow[0]);
@@ -103,11 +104,23 @@ async function takeAll(list) {
   }
 }
 
+/** The planes fit the page again where its width is another one. */
+function refit() {
+  let width = innerWidth;
+  addEventListener("resize", () => {
+    if (innerWidth === width || shown?.run.answer !== Answer.Done) return;
+    width = innerWidth;
+    fit(shown);
+    zoomed(shown);
+  });
+}
+
 function listen() {
+  refit();
   byId("input").addEventListener("change", (event) => takeAll([...event.target.files]));
   byId("zoom").addEventListener("input", () => zoomed(shown));
   byId("outlines").addEventListener("change", () => zoomed(shown));
-  byId("filter").addEventListener("change", () => showRows(shown, chosen, open));
+  byId("filter").addEventListener("change", () => showRows(shown, () => chosen, open));
   byId("copy").addEventListener("click", copy);
   addEventListener("dragover", (event) => {
     event.preventDefault();

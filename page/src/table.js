@@ -41,8 +41,20 @@ function row(record, chosen, open) {
   return made;
 }
 
+// As many rows as can be seen stand at once; the others follow in turns, so that a large file appears without waiting for them.
+const FIRST = 60;
+let filling = null;
+
 export function showRows(file, chosen, open) {
-  byId("rows").replaceChildren(...kept(file, byId("filter").value || "all").map((record) => row(record, chosen, open)));
+  const left = kept(file, byId("filter").value || "all").slice();
+  clearTimeout(filling);
+  byId("rows").replaceChildren();
+  const more = () => {
+    byId("rows").append(...left.splice(0, FIRST).map((record) => row(record, chosen(), open)));
+    byId("rows").dataset.left = left.length;
+    if (left.length > 0) filling = setTimeout(more);
+  };
+  more();
 }
 
 export function showRow(chosen) {
