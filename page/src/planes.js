@@ -100,7 +100,8 @@ function listened(sheet, file, open) {
 
 function figure(file, view, chosen, open) {
   const { width, height } = file.run;
-  const canvas = painted(element("canvas", { id: view.id }), width, height, view.values, view.colour);
+  // the numbers behind the pixels stay with them, for the page's test
+  const canvas = painted(element("canvas", { id: view.id, numbers: view.values }), width, height, view.values, view.colour);
   const sheet = element("div", { className: "sheet", tabIndex: 0 }, canvas, overlay(file, chosen));
   sheet.setAttribute("role", "img");
   sheet.setAttribute("aria-label", `${view.title}: ${width} by ${height} samples`);
