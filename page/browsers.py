@@ -26,6 +26,7 @@ def missing(name):
 
 class Chromium:
     name = "chromium"
+    widths = (1440, 390)
 
     def __init__(self):
         from selenium import webdriver
@@ -72,6 +73,7 @@ class Chromium:
 
 class Firefox:
     name = "firefox"
+    widths = (1440, 500)  # its windows are no narrower
 
     def __init__(self):
         self.profile = tempfile.mkdtemp()
