@@ -20,7 +20,6 @@ use Rattle.basis.specs.Basis.{basisAt}
 use Rattle.summary.specs.Summary.{those, mask, isSet, setRows, liveRows, summaryOf}
 use Rattle.summary.specs.Replace as Z
 use Rattle.idct.specs.Driver as D
-use Rattle.weights.specs.Line.{keptLine}
 use Rattle.idct32.specs.Engine.{every, keptRows, keptColumns, within16, widthAnswer, answerOf32}
 use Rattle.fwd_transform.specs.Quantize as Q
 use Rattle.fwd_dct.specs.Sum.{sum}
@@ -36,5 +35,5 @@ use Rattle.vbk_write.specs.Promises as W
 use Rattle.promises.specs.Numbers.{numbers, givens, saids}
 
 pub worked : givens numbers ≡ saids numbers
-unfolding numbers inverse2d rowsThenColumns rows columns anew line tabulate apply rounding dct dctRow dctSteps tail tailAt steps2 steps3 steps4 steps5 steps6 steps7 each when run step move fill applyB applyH setPair turnX turnY Round2 Cos64 Sin64 cosAt Brev wht whtRow wht4 halfway quantize rounded summaryOf liveRows those mask isSet setRows live anyBelow Z.summaryAfter Z.renewed Z.withBit Z.blockAfter Z.answerOf Z.coefficient badDepth badSide badLossless badTxType badQuantizer anyBeyond dequant dequantAll quantizerAt D.answerOf D.blockAfter answerOf32 widthAnswer within16 keptRows keptColumns keptLine every kept always shorts short Q.answerOf Q.badRule Q.tokenAt Q.tokensOf F.answerOf F.forwardDct F.exact sum basisAt R.answerOf R.badQuantizers R.badPlane R.badCoefficient P.answerOf P.reportAnswer P.badTotal P.badSums P.total P.listAfter P.noted inClass sumBelow share shares W.answerOf W.anyAbove W.badLists W.badCounts W.badTotal W.misfit W.tooLarge badArea fileOf clipOf entryOf tokensFrom tokensBefore bytesOf headerBytes entryBytes headBytes joined two four word32
+unfolding numbers inverse2d rowsThenColumns rows columns anew line tabulate apply rounding dct dctRow dctSteps tail tailAt steps2 steps3 steps4 steps5 steps6 steps7 each when run step move fill applyB applyH setPair turnX turnY Round2 Cos64 Sin64 cosAt Brev wht whtRow wht4 halfway quantize rounded summaryOf liveRows those mask isSet setRows live anyBelow Z.summaryAfter Z.renewed Z.withBit Z.blockAfter Z.answerOf Z.coefficient badDepth badSide badLossless badTxType badQuantizer anyBeyond dequant dequantAll quantizerAt D.answerOf D.blockAfter answerOf32 widthAnswer within16 keptRows keptColumns every kept always shorts short Q.answerOf Q.badRule Q.tokenAt Q.tokensOf F.answerOf F.forwardDct F.exact sum basisAt R.answerOf R.badQuantizers R.badPlane R.badCoefficient P.answerOf P.reportAnswer P.badTotal P.badSums P.total P.listAfter P.noted inClass sumBelow share shares W.answerOf W.anyAbove W.badLists W.badCounts W.badTotal W.misfit W.tooLarge badArea fileOf clipOf entryOf tokensFrom tokensBefore bytesOf headerBytes entryBytes headBytes joined two four word32
 worked = refl
