@@ -4,7 +4,7 @@ ghost use Rattle.answers.specs.Bad.{bad_depth, retired, bad_size, bad_side, bad_
 ghost use Rattle.answers.specs.Sizes.{side, area};
 
 // The answers of all calls and of the VBK reader, in the order of their numbers, 0 to 20.
-#[derive(Drop)]
+#[derive(Clone, Copy)]
 pub enum Answer {
     Done,
     Depth,

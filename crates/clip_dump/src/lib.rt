@@ -10,7 +10,7 @@ use vbk_read::{Cursor, Head};
 pub const TEXT_LIMIT: usize = 1048560;
 
 // The file made text, or words on what is wrong; how long that is in the buffer.
-#[derive(Drop)]
+#[derive(Clone, Copy)]
 pub struct Dumped {
     pub good: bool,
     pub length: usize,
@@ -18,7 +18,7 @@ pub struct Dumped {
 
 // Where the writing of records ended: the record's index, its place, its answer's number, which is 0 past the last one, and the place in
 // the text.
-#[derive(Drop)]
+#[derive(Clone, Copy)]
 struct Scan {
     index: u64,
     at: usize,
@@ -27,7 +27,7 @@ struct Scan {
 }
 
 // A record's answer, the place of the next one in the file, and the place past its rows in the text.
-#[derive(Drop)]
+#[derive(Clone, Copy)]
 struct Step {
     number: u32,
     next: usize,

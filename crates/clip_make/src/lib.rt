@@ -6,7 +6,7 @@ ghost use Rattle.clip_make.specs.Make.{MadeOf};
 use clip_told::{REFUSED, State};
 
 // The text made a file, and how long that is; how long the words are: on what is wrong, or warnings.
-#[derive(Drop)]
+#[derive(Clone, Copy)]
 pub struct Made {
     pub good: bool,
     pub length: usize,

@@ -14,7 +14,7 @@ use clip_told::{
 };
 
 // A place in a row with this separator, past a number that was read; or what is wrong with the field there.
-#[derive(Drop)]
+#[derive(Clone, Copy)]
 struct Place {
     at: usize,
     mark: u8,
@@ -27,7 +27,7 @@ struct Place {
 }
 
 // What the header says, and the place past its numbers.
-#[derive(Drop)]
+#[derive(Clone, Copy)]
 struct Size {
     depth: u8,
     width: u16,
@@ -36,7 +36,7 @@ struct Size {
 }
 
 // Where a record's block lies and how large it is, and the place past these numbers.
-#[derive(Drop)]
+#[derive(Clone, Copy)]
 struct Corner {
     x: u16,
     y: u16,
@@ -45,7 +45,7 @@ struct Corner {
 }
 
 // The numbers of a record before its tokens, and the place past them.
-#[derive(Drop)]
+#[derive(Clone, Copy)]
 struct Head {
     x: u16,
     y: u16,
@@ -58,14 +58,14 @@ struct Head {
 }
 
 // A record that began, or what is wrong with it, and the place of its first token.
-#[derive(Drop)]
+#[derive(Clone, Copy)]
 struct Begun {
     state: State,
     at: usize,
 }
 
 // A field that is a number, or COUNT*VALUE: what is wrong with it or its count, and the value.
-#[derive(Drop)]
+#[derive(Clone, Copy)]
 struct Run {
     wrong: u8,
     count: u64,
@@ -73,7 +73,7 @@ struct Run {
 }
 
 // So many samples of this value; or what is wrong, and the limit that it is past.
-#[derive(Drop)]
+#[derive(Clone, Copy)]
 struct Samples {
     wrong: u8,
     limit: u64,
@@ -82,7 +82,7 @@ struct Samples {
 }
 
 // So many tokens of this value; or what is wrong, and the limit that it is past.
-#[derive(Drop)]
+#[derive(Clone, Copy)]
 struct Tokens {
     wrong: u8,
     limit: u64,

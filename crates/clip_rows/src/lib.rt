@@ -3,14 +3,14 @@ ghost use Rattle.std.specs.Prelude.{◌≡◌, ◌+◌, ◌≤◌, ◌<◌, leng
 ghost use Rattle.clip_rows.specs.Rows.{Said};
 
 // A line: the place of its end, and of the next line.
-#[derive(Drop)]
+#[derive(Clone, Copy)]
 pub struct Line {
     pub end: usize,
     pub next: usize,
 }
 
 // A field: its first byte, the place past its last one, and the place to read on from.
-#[derive(Drop)]
+#[derive(Clone, Copy)]
 pub struct Field {
     pub from: usize,
     pub to: usize,
@@ -18,7 +18,7 @@ pub struct Field {
 }
 
 // Whether all bytes are digits after at most one minus, the sign and the magnitude.
-#[derive(Drop)]
+#[derive(Clone, Copy)]
 pub struct Number {
     pub good: bool,
     pub minus: bool,

@@ -63,7 +63,7 @@ pub const MORE: u8 = 22;
 pub const OVER: u8 = 23;
 
 // What was read of a text, and what is wrong with it.
-#[derive(Drop)]
+#[derive(Clone, Copy)]
 pub struct State {
     // the line and the row that is read, and its separator; what is wrong there, and the field, its column and its limit
     pub line: u64,

@@ -12,7 +12,7 @@ use row_pass::RowCount;
 mod fast;
 
 // The answer of a driver, and the count of its row transforms, which none but a row pass can make.
-#[derive(Drop)]
+#[derive(Clone, Copy)]
 pub struct DrivenRows {
     pub answer: Answer,
     pub rows: RowCount,

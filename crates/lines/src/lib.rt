@@ -7,14 +7,14 @@ ghost use Rattle.std.specs.Prelude.{◌+◌, ◌≤◌, length};
 pub const BROKEN: usize = 18446744073709551615;
 
 // Digits as a number, and the place behind them.
-#[derive(Drop)]
+#[derive(Clone, Copy)]
 struct Digits {
     value: u64,
     next: usize,
 }
 
 // A number with its sign apart, and the place behind it.
-#[derive(Drop)]
+#[derive(Clone, Copy)]
 struct Number {
     minus: bool,
     value: u64,
@@ -22,49 +22,49 @@ struct Number {
 }
 
 // A number of 64 bits without a sign, and the place behind it.
-#[derive(Drop)]
+#[derive(Clone, Copy)]
 pub struct Unsigned {
     pub value: u64,
     pub next: usize,
 }
 
 // A number of 32 bits without a sign, and the place behind it.
-#[derive(Drop)]
+#[derive(Clone, Copy)]
 pub struct Unsigned32 {
     pub value: u32,
     pub next: usize,
 }
 
 // A number of 8 bits without a sign, and the place behind it.
-#[derive(Drop)]
+#[derive(Clone, Copy)]
 pub struct Unsigned8 {
     pub value: u8,
     pub next: usize,
 }
 
 // A number of 64 bits with a sign, and the place behind it.
-#[derive(Drop)]
+#[derive(Clone, Copy)]
 pub struct Signed {
     pub value: i64,
     pub next: usize,
 }
 
 // A number of 32 bits with a sign, and the place behind it.
-#[derive(Drop)]
+#[derive(Clone, Copy)]
 pub struct Signed32 {
     pub value: i32,
     pub next: usize,
 }
 
 // A 0 or a 1 as a flag, and the place behind it.
-#[derive(Drop)]
+#[derive(Clone, Copy)]
 pub struct Flag {
     pub value: bool,
     pub next: usize,
 }
 
 // So many elements with this value.
-#[derive(Drop)]
+#[derive(Clone, Copy)]
 struct Run {
     count: usize,
     value: i64,
@@ -72,7 +72,7 @@ struct Run {
 }
 
 // So many elements were stored.
-#[derive(Drop)]
+#[derive(Clone, Copy)]
 pub struct List {
     pub count: usize,
     pub next: usize,

@@ -18,7 +18,7 @@ pub fn wide(x: i16) -> i32
 }
 
 // Both values of a rotation.
-#[derive(Drop)]
+#[derive(Clone, Copy)]
 pub struct Rotated32 {
     pub x: i32,
     pub y: i32,

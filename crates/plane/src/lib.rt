@@ -8,7 +8,7 @@ ghost use Rattle.plane.specs.Plane.{clip, plane_after};
 ghost use Rattle.plane.specs.Inner.{row_after};
 
 // A plane's width and height, and how far a line is from the next. Its samples are lent beside it.
-#[derive(Drop)]
+#[derive(Clone, Copy)]
 pub struct Plane {
     pub width: usize,
     pub height: usize,

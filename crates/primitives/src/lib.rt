@@ -122,7 +122,7 @@ pub fn sin64(angle: i32) -> i64
 }
 
 // The two values of a rotation.
-#[derive(Drop)]
+#[derive(Clone, Copy)]
 pub struct Rotated {
     pub x: i64,
     pub y: i64,

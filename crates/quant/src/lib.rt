@@ -7,11 +7,11 @@ ghost use Rattle.quant.specs.Token.{dq_denom, dequant, short, with_sign, quantiz
 use answers::{QUANT_LIMIT, magnitude};
 
 // The quantizer of place 0.
-#[derive(Drop)]
+#[derive(Clone, Copy)]
 pub struct DcQuant(pub i32);
 
 // The quantizer of all other places.
-#[derive(Drop)]
+#[derive(Clone, Copy)]
 pub struct AcQuant(pub i32);
 
 // The greatest magnitude of a token; 0 for a depth that is not 8, 10 or 12.

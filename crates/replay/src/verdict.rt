@@ -1,7 +1,7 @@
 use answers::Answer;
 
 // What came of a line.
-#[derive(Drop)]
+#[derive(Clone, Copy)]
 pub enum Verdict {
     Same,
     Differ,

@@ -130,7 +130,7 @@ pub fn from_bytes(bytes: &[u8], count: usize, into: &mut [i64])
 }
 
 // What stands before the lists of a reconstructed block, and the place of these.
-#[derive(Drop)]
+#[derive(Clone, Copy)]
 struct Block {
     x: u64,
     y: u64,

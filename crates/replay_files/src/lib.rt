@@ -151,7 +151,7 @@ fn read_tokens(line: &[u8], at: usize, numbers: &mut [i64], into: &mut [i32]) ->
 }
 
 // What stands before the lists, and the place of these.
-#[derive(Drop)]
+#[derive(Clone, Copy)]
 struct Fields {
     depth: u8,
     width: u16,

@@ -18,7 +18,7 @@ use answers::{area, magnitude, side};
 use quant::{AcQuant, DcQuant};
 
 // The magnitudes of some numbers, or-ed together and added up; the sum wraps only where one of them is great.
-#[derive(Drop)]
+#[derive(Clone, Copy)]
 struct Strip {
     all: u64,
     sum: u64,
@@ -40,7 +40,7 @@ fn weigh_strip(numbers: &[i64], start: usize, n: usize) -> Strip
 }
 
 // Those of a block of 8 by 8 or more, and how many strips of eight rows reach to the last that is live; at least one.
-#[derive(Drop)]
+#[derive(Clone, Copy)]
 struct Weight {
     all: u64,
     sum: u64,

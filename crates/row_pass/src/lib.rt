@@ -7,7 +7,7 @@ ghost use Rattle.blocks.specs.Inverse.{Dct, Wht, apply, lossy};
 ghost use Rattle.row_pass.specs.Inner.{Clear, Passed};
 
 // How many rows were transformed. Its field is private: outside this crate a count comes from a row pass, or is that of no rows.
-#[derive(Drop)]
+#[derive(Clone, Copy)]
 pub struct RowCount {
     number: u32,
 }

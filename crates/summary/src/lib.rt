@@ -12,14 +12,14 @@ use answers::Answer;
 use quant::{AcQuant, DcQuant};
 
 // What row_summary gives: bit i of Rows is set where row i has a number that is not 0.
-#[derive(Drop)]
+#[derive(Clone, Copy)]
 pub enum RowSummary {
     Rows(u32),
     Refused(Answer),
 }
 
 // The first or the last row of a summary; an empty one has none.
-#[derive(Drop)]
+#[derive(Clone, Copy)]
 pub enum Row {
     None,
     At(u32),

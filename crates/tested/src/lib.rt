@@ -21,7 +21,7 @@ ghost use Rattle.tested.specs.Line.{pass_of, steps_of, Sized, Line, RowsKeep, Co
 ghost use Rattle.tested.specs.Inner.{step_of, angle_at, known, OfAngle, ready, Told, Tables, first_of};
 
 // The transform of a line; the WHT has a shift of 2 in rows and none in columns.
-#[derive(Drop)]
+#[derive(Clone, Copy)]
 pub enum Kind {
     Dct,
     Adst,
@@ -210,7 +210,7 @@ const STEPS: [u32; 173] = [
 ];
 
 // A cosine and a sine.
-#[derive(Drop)]
+#[derive(Clone, Copy)]
 struct CosSin(i32, i32);
 
 // Those of an angle of the table. By arms, because an array constant is built anew at each run-time index.

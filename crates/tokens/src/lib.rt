@@ -84,10 +84,10 @@ pub fn check(
 }
 
 // The greatest magnitude of a token at place 0, and of one at any other place: two types, so that neither stands for the other.
-#[derive(Drop)]
+#[derive(Clone, Copy)]
 struct DcBound(u64);
 
-#[derive(Drop)]
+#[derive(Clone, Copy)]
 struct AcBound(u64);
 
 // The greatest product of token and quantizer whose coefficient is within its limit.

@@ -76,7 +76,7 @@ fn answer_record(file: &[u8], at: usize, record: Record, fields: Fields, samples
 }
 
 // How many records were read, and the touched count.
-#[derive(Drop)]
+#[derive(Clone, Copy)]
 pub struct Tally {
     pub count: usize,
     pub touched: usize,
@@ -148,7 +148,7 @@ fn play(file: &[u8], fields: Fields, samples: &mut [u16], answers: &mut [u8]) ->
 }
 
 // A run's outcome: the answer and the header, how many records were read, and the touched count.
-#[derive(Drop)]
+#[derive(Clone, Copy)]
 pub struct Run {
     pub answer: Answer,
     pub fields: Fields,

@@ -16,34 +16,34 @@ pub const HEADER_BYTES: usize = 10;
 pub const HEAD_BYTES: usize = 11;
 
 // A place in the file. Each read hands back the place past what it read.
-#[derive(Drop)]
+#[derive(Clone, Copy)]
 pub struct Cursor {
     pub at: usize,
 }
 
 // A byte that was read, and the place past it.
-#[derive(Drop)]
+#[derive(Clone, Copy)]
 pub struct GotU8 {
     pub value: u8,
     pub next: Cursor,
 }
 
 // A number of two bytes that was read, and the place past it.
-#[derive(Drop)]
+#[derive(Clone, Copy)]
 pub struct GotU16 {
     pub value: u16,
     pub next: Cursor,
 }
 
 // A signed number of four bytes that was read, and the place past it.
-#[derive(Drop)]
+#[derive(Clone, Copy)]
 pub struct GotI32 {
     pub value: i32,
     pub next: Cursor,
 }
 
 // What the header says, and the place past it.
-#[derive(Drop)]
+#[derive(Clone, Copy)]
 pub struct Fields {
     pub version: u16,
     pub depth: u8,
@@ -53,14 +53,14 @@ pub struct Fields {
 }
 
 // The answer of the header's checks, and what it says: zeros under a refusal.
-#[derive(Drop)]
+#[derive(Clone, Copy)]
 pub struct Header {
     pub answer: Answer,
     pub fields: Fields,
 }
 
 // A record before its tokens, and the place of these.
-#[derive(Drop)]
+#[derive(Clone, Copy)]
 pub struct Head {
     pub x: u16,
     pub y: u16,
@@ -74,7 +74,7 @@ pub struct Head {
 
 // What a read finds at a place: whether a record is there, which with no byte left it is not; whether the reading ends; the answer of the
 // record's own checks, its head, and the place to read on from.
-#[derive(Drop)]
+#[derive(Clone, Copy)]
 pub struct Record {
     pub found: bool,
     pub ends: bool,
@@ -376,7 +376,7 @@ pub fn record_at(s: &[u8], at: usize) -> Record
 }
 
 // The lent file, a place in it, and the record there, kept together.
-#[derive(Drop)]
+#[derive(Clone, Copy)]
 pub struct Reader<'a> {
     pub file: &'a [u8],
     pub at: usize,

@@ -14,7 +14,7 @@ ghost use Rattle.vbk_write.specs.Inner.{file_length};
 use answers::Answer;
 
 // The answer, and how long the file is: 0 under a refusal.
-#[derive(Drop)]
+#[derive(Clone, Copy)]
 pub struct Written {
     pub answer: Answer,
     pub length: usize,
