@@ -1,6 +1,8 @@
 // Runs the VBK files that its arguments name, `-` being standard input, in order and with one report, and writes how their tokens spread: a
 // line for each size and class of magnitudes with its count and sum, then the total. With `--csv` before them, a table for a spreadsheet: the
 // rows of each file, then those of all. What is counted is the promise of `vbk_report::replay_report`; what is not is told on standard error.
+#![tactic(auto)]
+
 ghost use Rattle.std.specs.Prelude.{◌≡◌, ◌≤◌, length};
 
 use libc::{STDERR_FILENO, STDIN_FILENO, STDOUT_FILENO};

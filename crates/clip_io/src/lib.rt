@@ -1,5 +1,7 @@
 // What the programs that make and dump clips share: room for a text, what is made to standard output, or one line on standard error. No
 // contract can say what is read or written. A program has no status to end with: ../../tools/program turns a line on standard error into one.
+#![tactic(auto)]
+
 ghost use Rattle.std.specs.Prelude.{◌≤◌};
 
 use libc::{STDERR_FILENO, STDOUT_FILENO};

@@ -1,5 +1,7 @@
 // One number for every host: makes calls of every kind from a seed, and prints a digest of all answers and values. Standard input has
 // the seed and how many calls of each kind. oracle/harness/digest.rs makes the same calls of the Rust.
+#![tactic(auto)]
+
 mod coder;
 mod drivers;
 mod files;

@@ -1,4 +1,6 @@
 // Runs each VBK file that its arguments name, and writes the name on a line and the run's text after it.
+#![tactic(auto)]
+
 use libc::STDOUT_FILENO;
 
 fn newline() {

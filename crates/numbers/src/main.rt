@@ -1,4 +1,6 @@
 // Numbers of docs/REFERENCE.md that are run and not proved: a line for each call, with what it gives.
+#![tactic(auto)]
+
 use libc::STDOUT_FILENO;
 
 fn show_number(call: &[u8], value: u64) {

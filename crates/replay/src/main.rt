@@ -1,4 +1,5 @@
 // The Rust's answers against our calls: lines of oracle/README.md on standard input, one line of counts for each kind.
+#![tactic(auto)]
 
 ghost use Rattle.std.specs.Prelude.{◌≡◌, length};
 

@@ -1,5 +1,7 @@
 // Makes the text of each VBK file that its arguments name, and of the text a file again: a line says whether that is the same file, or why
 // no text can say it.
+#![tactic(auto)]
+
 use clip_dump::Dumped;
 use libc::STDOUT_FILENO;
 

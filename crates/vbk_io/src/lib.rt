@@ -1,6 +1,8 @@
 // A VBK file from a descriptor, and the text of its run to standard output. No contract can say what is read or written: what is
 // printed for the bytes read is the promise of `vbk::blockrun`. A program has no status to end with: a read or a write that fails
 // is told by a line on standard error, which ../../tools/program turns into a status.
+#![tactic(auto)]
+
 ghost use Rattle.std.specs.Prelude.{◌≡◌, length};
 
 use libc::{STDERR_FILENO, STDOUT_FILENO};

@@ -1,4 +1,6 @@
 // Reads a VBK file from standard input and writes its text to standard output. What is wrong is told on standard error.
+#![tactic(auto)]
+
 use clip_dump::Dumped;
 use libc::STDIN_FILENO;
 

@@ -1,4 +1,6 @@
 // Reads a clip's text from standard input and writes the VBK file to standard output. What is wrong is told on standard error.
+#![tactic(auto)]
+
 use libc::STDIN_FILENO;
 
 // Bytes that fill the room for a text.

@@ -1,5 +1,7 @@
 // Texts on standard input with a line `====` after each: for each the words on what is wrong with it, or how long its file is
 // and the first bytes of it, which show each number of a header and of a record in its place.
+#![tactic(auto)]
+
 ghost use Rattle.std.specs.Prelude.{◌≤◌, ◌<◌, length};
 
 use libc::{STDIN_FILENO, STDOUT_FILENO};

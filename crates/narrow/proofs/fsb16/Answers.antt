@@ -1,0 +1,32 @@
+-- `narrow::fsb16` meets its contract.
+use mathlib.Core.Path.{◌≡◌, ◌∙◌}
+use lib.IntN.{ℤ}
+use mir.Syntax.{w32}
+use mir.Facts.{to_z-of_z}
+use borrow.Author.Rules.{rules}
+use Rattle.whole.proofs.Signed.{rd, rd_ok}
+use Rattle.primitives.specs.Rotations.{set_pair}
+use Rattle.narrow.specs.Inner.{spin_x, spin_y}
+use Rattle.narrow.proofs.fsb16.Goals as goal
+use Rattle.narrow.proofs.fsb16.Goals.{After-struct_told-1}
+
+x_is : (c : After-struct_told-1) → let s = start c.before in rd w32 c.turn-r.result.x ≡ spin_x s.args.t.now s.args.a s.args.b s.args.cos s.args.sin
+x_is c =
+    let s = start c.before in
+    rd_ok w32 c.struct_told-1.given.0.1 ∙ (rw (to_z-of_z s.fits.cos, to_z-of_z s.fits.sin) at c.turn-r.ensures.x_is)
+
+y_is : (c : After-struct_told-1) → let s = start c.before in rd w32 c.turn-r.result.y ≡ spin_y s.args.t.now s.args.a s.args.b s.args.cos s.args.sin
+y_is c =
+    let s = start c.before in
+    rd_ok w32 c.struct_told-1.given.1.0.1 ∙ (rw (to_z-of_z s.fits.cos, to_z-of_z s.fits.sin) at c.turn-r.ensures.y_is)
+
+pub returns-then-flip : goal.returns-then-flip
+unfolding set_pair
+returns-then-flip c = let r = c.turn-r.ensures in (rw (c.if-flip.true, x_is c.before.before, y_is c.before.before), (r.a_in, r.b_in))
+
+pub returns-else-flip : goal.returns-else-flip
+unfolding set_pair
+returns-else-flip c = let r = c.turn-r.ensures in (rw (c.if-flip.false, x_is c.before.before, y_is c.before.before), (r.a_in, r.b_in))
+
+pub turn-r-requires : goal.turn-r-requires
+turn-r-requires c = rw (to_z-of_z c.ranges.cos, to_z-of_z c.ranges.sin) c.requires.2

@@ -1,0 +1,48 @@
+-- `tested::rotate` meets its contract.
+use mathlib.Core.Path.{◌≡◌, ◌∙◌}
+use lib.IntN.{ℤ}
+use mir.Syntax.{w32}
+use mir.Facts.{to_z-of_z}
+use borrow.Author.Rules.{rules}
+use Rattle.whole.specs.Round.{Round2}
+use Rattle.whole.proofs.Signed.{rd, rd_ok}
+use Rattle.narrow.specs.Inner.{spin_x, spin_y, spin_fits, spin}
+use Rattle.narrow.proofs.Locals.{round_is, room}
+use Rattle.tested.proofs.rotate.Goals as goal
+use Rattle.tested.proofs.rotate.Goals.{After-round14-y, After-struct_told-1}
+
+x_is : (c : After-struct_told-1) → let s = start c.before in rd w32 c.turn-r.result.x ≡ spin_x s.args.t.now s.args.a s.args.b s.args.cos s.args.sin
+x_is c =
+    let s = start c.before in
+    rd_ok w32 c.struct_told-1.given.0.1 ∙ (rw (to_z-of_z s.fits.cos, to_z-of_z s.fits.sin) at c.turn-r.ensures.x_is)
+
+y_is : (c : After-struct_told-1) → let s = start c.before in rd w32 c.turn-r.result.y ≡ spin_y s.args.t.now s.args.a s.args.b s.args.cos s.args.sin
+y_is c =
+    let s = start c.before in
+    rd_ok w32 c.struct_told-1.given.1.0.1 ∙ (rw (to_z-of_z s.fits.cos, to_z-of_z s.fits.sin) at c.turn-r.ensures.y_is)
+
+-- rounded
+x_rounded : (c : After-round14-y) → let s = start c.before.before.before.before in
+    rd w32 c.round14-x.result ≡ Round2 (spin_x s.args.t.now s.args.a s.args.b s.args.cos s.args.sin) 14
+x_rounded c = let r = c.round14-x in round_is c.turn-r.result.x r.type-inv r.ensures (x_is c.before.before.before)
+
+y_rounded : (c : After-round14-y) → let s = start c.before.before.before.before in
+    rd w32 c.round14-y.result ≡ Round2 (spin_y s.args.t.now s.args.a s.args.b s.args.cos s.args.sin) 14
+y_rounded c = let r = c.round14-y in round_is c.turn-r.result.y r.type-inv r.ensures (y_is c.before.before.before)
+
+pub returns : goal.returns
+unfolding spin spin_fits
+returns c =
+    let r = c.put.ensures in
+    let x = x_rounded c.before.before in
+    let y = y_rounded c.before.before in
+    (rw (x, y) at r.0, λ e. rw (x, y) at (r.1 e))
+
+pub turn-r-requires : goal.turn-r-requires
+turn-r-requires c = rw (to_z-of_z c.ranges.cos, to_z-of_z c.ranges.sin) c.requires
+
+pub round14-x-requires : goal.round14-x-requires
+round14-x-requires c = room c.turn-r.ensures.x_in
+
+pub round14-y-requires : goal.round14-y-requires
+round14-y-requires c = room c.turn-r.ensures.y_in
