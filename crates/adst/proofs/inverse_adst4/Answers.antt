@@ -120,8 +120,8 @@ returns c =
     let r2 = c.round2-2 in
     let r3 = c.round2-3 in
     let r4 = c.round2-4 in
-    let e1 = rd_ok w64 r1.type-inv ∙ r1.ensures ∙ ap (λ (z : ℤ). Round2 z 14) (value w64 (x0 t h ⊕ x3 t h) tt) in
-    let e2 = rd_ok w64 r2.type-inv ∙ r2.ensures ∙ ap (λ (z : ℤ). Round2 z 14) (value w64 (x1 t h ⊕ x3 t h) tt) in
-    let e3 = rd_ok w64 r3.type-inv ∙ r3.ensures ∙ ap (λ (z : ℤ). Round2 z 14) (value w64 (x2 t h) tt) in
-    let e4 = rd_ok w64 r4.type-inv ∙ r4.ensures ∙ ap (λ (z : ℤ). Round2 z 14) (value w64 (x0 t h ⊕ x1 t h ⊖ x3 t h) tt) in
+    let e1 = rd_ok w64 r1.type_inv ∙ r1.ensures ∙ ap (λ (z : ℤ). Round2 z 14) (value w64 (x0 t h ⊕ x3 t h) tt) in
+    let e2 = rd_ok w64 r2.type_inv ∙ r2.ensures ∙ ap (λ (z : ℤ). Round2 z 14) (value w64 (x1 t h ⊕ x3 t h) tt) in
+    let e3 = rd_ok w64 r3.type_inv ∙ r3.ensures ∙ ap (λ (z : ℤ). Round2 z 14) (value w64 (x2 t h) tt) in
+    let e4 = rd_ok w64 r4.type_inv ∙ r4.ensures ∙ ap (λ (z : ℤ). Round2 z 14) (value w64 (x0 t h ⊕ x1 t h ⊖ x3 t h) tt) in
     rw (e1, e2, e3, e4)

@@ -19,7 +19,7 @@ pub loop-i-preserved : goal.loop-i-preserved
 unfolding run step
 loop-i-preserved c =
     let a = c.angle2-angle in
-    (omega arith, each_more step _ _ _ c.loop-i.invariant.1 (rw (rd_ok w32 a.type-inv, a.ensures) at c.butterfly.ensures))
+    (omega arith, each_more step _ _ _ c.loop-i.invariant.1 (rw (rd_ok w32 a.type_inv, a.ensures) at c.butterfly.ensures))
 
 pub returns : goal.returns
 unfolding steps2

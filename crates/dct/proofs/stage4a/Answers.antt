@@ -19,7 +19,7 @@ pub loop-j-preserved : goal.loop-j-preserved
 unfolding run step
 loop-j-preserved c =
     let a = c.angle4-angle in
-    (omega arith, each_more step _ _ _ c.loop-j.invariant.1 (rw (rd_ok w32 a.type-inv, a.ensures) at c.butterfly.ensures))
+    (omega arith, each_more step _ _ _ c.loop-j.invariant.1 (rw (rd_ok w32 a.type_inv, a.ensures) at c.butterfly.ensures))
 
 pub loop-i-init : goal.loop-i-init
 loop-i-init c = search (rules, loops)

@@ -8,5 +8,5 @@ use Rattle.exports.proofs.bracetwill_replace_token.Goals as goal
 -- the two quantizers and the token, as they were handed over
 pub returns : goal.returns
 returns c =
-    let e = rw (to_z-of_z w32 c.args.dc-quant c.ranges.dc-quant, to_z-of_z w32 c.args.ac-quant c.ranges.ac-quant, to_z-of_z w64 c.args.token c.ranges.token) at c.replace_token-a.ensures in
+    let e = rw (to_z-of_z w32 c.args.dc_quant c.ranges.dc_quant, to_z-of_z w32 c.args.ac_quant c.ranges.ac_quant, to_z-of_z w64 c.args.token c.ranges.token) at c.replace_token-a.ensures in
     record { answered = c.code.ensures ∙ e.answered; written = together _ _ e.written e.kept }

@@ -26,10 +26,10 @@ y_is c = let s = start c.before in rotated turn_y c.struct_told-1.given.1.0.1 s.
 
 -- rounded
 x_rounded : (c : After-round2-y) → rd w64 c.round2-x.result ≡ Round2 (of turn_x c) 14
-x_rounded c = let r = c.round2-x in rd_ok w64 r.type-inv ∙ r.ensures ∙ ap (λ (z : ℤ). Round2 z 14) (x_is c.before.before.before)
+x_rounded c = let r = c.round2-x in rd_ok w64 r.type_inv ∙ r.ensures ∙ ap (λ (z : ℤ). Round2 z 14) (x_is c.before.before.before)
 
 y_rounded : (c : After-round2-y) → rd w64 c.round2-y.result ≡ Round2 (of turn_y c) 14
-y_rounded c = let r = c.round2-y in rd_ok w64 r.type-inv ∙ r.ensures ∙ ap (λ (z : ℤ). Round2 z 14) (y_is c.before.before.before)
+y_rounded c = let r = c.round2-y in rd_ok w64 r.type_inv ∙ r.ensures ∙ ap (λ (z : ℤ). Round2 z 14) (y_is c.before.before.before)
 
 pub round2-x-requires : goal.round2-x-requires
 round2-x-requires c =

@@ -60,10 +60,10 @@ returns c =
     let r4 = c.round2-4 in
     let y0 = sum0_is (val (a c.before.before.before.before.before.before.before.before)) (val (b c.before.before.before.before.before.before.before.before)) (val (c' c.before.before.before.before.before.before.before.before)) (val (d c.before.before.before.before.before.before.before.before)) in
     let y1 = sum1_is (val (a c.before.before.before.before.before.before.before.before)) (val (b c.before.before.before.before.before.before.before.before)) (val (c' c.before.before.before.before.before.before.before.before)) (val (d c.before.before.before.before.before.before.before.before)) in
-    let e1 = rd_ok w64 r1.type-inv ∙ r1.ensures ∙ ap (λ (z : ℤ). Round2 z 14) (value w64 (x0 c.before.before.before.before.before.before.before.before ⊕ x3 c.before.before.before.before.before.before.before.before) tt ∙ ap (λ (y : ℤ). y +ℤ val (x3 c.before.before.before.before.before.before.before.before)) y0) in
-    let e2 = rd_ok w64 r2.type-inv ∙ r2.ensures ∙ ap (λ (z : ℤ). Round2 z 14) (value w64 (x1 c.before.before.before.before.before.before.before.before ⊕ x3 c.before.before.before.before.before.before.before.before) tt ∙ ap (λ (y : ℤ). y +ℤ val (x3 c.before.before.before.before.before.before.before.before)) y1) in
-    let e3 = rd_ok w64 r3.type-inv ∙ r3.ensures ∙ ap (λ (z : ℤ). Round2 z 14) (value w64 (x2 c.before.before.before.before.before.before.before.before) tt) in
-    let e4 = rd_ok w64 r4.type-inv ∙ r4.ensures ∙ ap (λ (z : ℤ). Round2 z 14) (value w64 (x0 c.before.before.before.before.before.before.before.before ⊕ x1 c.before.before.before.before.before.before.before.before ⊖ x3 c.before.before.before.before.before.before.before.before) tt ∙ ap₂ (λ (y z : ℤ). y +ℤ z -ℤ val (x3 c.before.before.before.before.before.before.before.before)) y0 y1) in
+    let e1 = rd_ok w64 r1.type_inv ∙ r1.ensures ∙ ap (λ (z : ℤ). Round2 z 14) (value w64 (x0 c.before.before.before.before.before.before.before.before ⊕ x3 c.before.before.before.before.before.before.before.before) tt ∙ ap (λ (y : ℤ). y +ℤ val (x3 c.before.before.before.before.before.before.before.before)) y0) in
+    let e2 = rd_ok w64 r2.type_inv ∙ r2.ensures ∙ ap (λ (z : ℤ). Round2 z 14) (value w64 (x1 c.before.before.before.before.before.before.before.before ⊕ x3 c.before.before.before.before.before.before.before.before) tt ∙ ap (λ (y : ℤ). y +ℤ val (x3 c.before.before.before.before.before.before.before.before)) y1) in
+    let e3 = rd_ok w64 r3.type_inv ∙ r3.ensures ∙ ap (λ (z : ℤ). Round2 z 14) (value w64 (x2 c.before.before.before.before.before.before.before.before) tt) in
+    let e4 = rd_ok w64 r4.type_inv ∙ r4.ensures ∙ ap (λ (z : ℤ). Round2 z 14) (value w64 (x0 c.before.before.before.before.before.before.before.before ⊕ x1 c.before.before.before.before.before.before.before.before ⊖ x3 c.before.before.before.before.before.before.before.before) tt ∙ ap₂ (λ (y z : ℤ). y +ℤ z -ℤ val (x3 c.before.before.before.before.before.before.before.before)) y0 y1) in
     rw (e1, e2, e3, e4, ← four_is 2 c.args.t.now refl)
 
 pub overflow_add-u : goal.overflow_add-u

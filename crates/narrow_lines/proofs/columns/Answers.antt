@@ -15,7 +15,7 @@ lines-requires c =
 
 pub returns : goal.returns
 returns c =
-    (c.lines.ensures.long, columns_done (lossy c.args.use-dct) c.args.n c.args.z.now c.requires.0 c.requires.1 (rw c.side-strips.ensures.0 at c.lines.ensures))
+    (c.lines.ensures.long, columns_done (lossy c.args.use_dct) c.args.n c.args.z.now c.requires.0 c.requires.1 (rw c.side-strips.ensures.0 at c.lines.ensures))
 
 pub side-strips-requires : goal.side-strips-requires
 side-strips-requires c = (omega (arith, c.requires.0), c.requires.1)

@@ -19,17 +19,17 @@ eight-requires c =
       c.requires.2,
       l,
       c.loop-q.invariant.1.long,
-      first_keeps c.args.down (lossy c.args.use-dct) c.args.n c.loop-q.q (raster (side c.args.n) c.args.z.now) c.loop-q.invariant.1 l
+      first_keeps c.args.down (lossy c.args.use_dct) c.args.n c.loop-q.q (raster (side c.args.n) c.args.z.now) c.loop-q.invariant.1 l
           (λ i h. c.requires.5 c (omega (arith, c.loop-q-test.true))),
     )
 
 pub loop-q-preserved : goal.loop-q-preserved
 loop-q-preserved c =
-    (omega (arith, c.loop-q-test.true), first_next c.args.down (lossy c.args.use-dct) c.args.n c.loop-q.q (raster (side c.args.n) c.args.z.now) c.loop-q.invariant.1 c.eight.ensures)
+    (omega (arith, c.loop-q-test.true), first_next c.args.down (lossy c.args.use_dct) c.args.n c.loop-q.q (raster (side c.args.n) c.args.z.now) c.loop-q.invariant.1 c.eight.ensures)
 
 pub returns : goal.returns
 returns c =
-    first_done c.args.down (lossy c.args.use-dct) c.args.n c.loop-q.q (raster (side c.args.n) c.args.z.now) c.loop-q.invariant.1 c.args.strips c.loop-q.invariant.0 c.loop-q-test.false
+    first_done c.args.down (lossy c.args.use_dct) c.args.n c.loop-q.q (raster (side c.args.n) c.args.z.now) c.loop-q.invariant.1 c.args.strips c.loop-q.invariant.0 c.loop-q-test.false
 
 pub loop-q-init : goal.loop-q-init
-loop-q-init c = (omega arith, first_none c.args.down (lossy c.args.use-dct) c.args.n c.requires.4)
+loop-q-init c = (omega arith, first_none c.args.down (lossy c.args.use_dct) c.args.n c.requires.4)

@@ -13,6 +13,6 @@ pub returns : goal.returns
 returns c =
     let n = c.args.n in (
       c.lines.ensures.long,
-      rows_done (lossy c.args.use-dct) n c.args.strips c.args.z.now (valid c.args.use-dct n c.requires.0 c.requires.1 c.requires.2)
+      rows_done (lossy c.args.use_dct) n c.args.strips c.args.z.now (valid c.args.use_dct n c.requires.0 c.requires.1 c.requires.2)
           (side_most n (omega (arith, c.requires.0)) c.requires.1) c.requires.4 c.requires.6 c.lines.ensures,
     )

@@ -10,8 +10,8 @@ use Rattle.passes.proofs.columns3.Goals as goal
 use Rattle.passes.proofs.columns3.Goals.{Start}
 
 -- all columns of the block
-job : (c : Start) → Job (lossy c.args.use-dct) 3 8 (λ z. Round2 z 5) (λ j. j) 8 c.args.block.now (columns (apply (lossy c.args.use-dct) 3) (λ z. Round2 z 5) 8 c.args.block.now)
-job c = columns_job _ 3 _ _ (omega arith) (omega arith) (small_valid 0 c.args.use-dct 3 (omega arith) (omega arith)) c.requires.0 c.requires.1
+job : (c : Start) → Job (lossy c.args.use_dct) 3 8 (λ z. Round2 z 5) (λ j. j) 8 c.args.block.now (columns (apply (lossy c.args.use_dct) 3) (λ z. Round2 z 5) 8 c.args.block.now)
+job c = columns_job _ 3 _ _ (omega arith) (omega arith) (small_valid 0 c.args.use_dct 3 (omega arith) (omega arith)) c.requires.0 c.requires.1
 
 pub line3-requires : goal.line3-requires
 line3-requires c = turn_safe (job c.before.before.before.before.before) c.loop-j.invariant c.loop-j-test.true c.load.ensures

@@ -10,8 +10,8 @@ use Rattle.passes.proofs.columns4.Goals as goal
 use Rattle.passes.proofs.columns4.Goals.{Start}
 
 -- all columns of the block
-job : (c : Start) → Job (lossy c.args.use-dct) 4 16 (λ z. Round2 z 6) (λ j. j) 16 c.args.block.now (columns (apply (lossy c.args.use-dct) 4) (λ z. Round2 z 6) 16 c.args.block.now)
-job c = columns_job _ 4 _ _ (omega arith) (omega arith) (small_valid 0 c.args.use-dct 4 (omega arith) (omega arith)) c.requires.0 c.requires.1
+job : (c : Start) → Job (lossy c.args.use_dct) 4 16 (λ z. Round2 z 6) (λ j. j) 16 c.args.block.now (columns (apply (lossy c.args.use_dct) 4) (λ z. Round2 z 6) 16 c.args.block.now)
+job c = columns_job _ 4 _ _ (omega arith) (omega arith) (small_valid 0 c.args.use_dct 4 (omega arith) (omega arith)) c.requires.0 c.requires.1
 
 pub line4-requires : goal.line4-requires
 line4-requires c = turn_safe (job c.before.before.before.before.before) c.loop-j.invariant c.loop-j-test.true c.load.ensures

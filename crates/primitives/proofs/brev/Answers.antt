@@ -8,18 +8,18 @@ use Rattle.primitives.proofs.brev.Goals as goal
 
 pub loop-i-init : goal.loop-i-init
 loop-i-init c =
-    let e : c.args.num-bits - 0 ≡ c.args.num-bits = omega arith in
+    let e : c.args.num_bits - 0 ≡ c.args.num_bits = omega arith in
     (omega arith, omega (arith, ap (λ k. Brev k c.args.x) e))
 
 pub overflow_add-t : goal.overflow_add-t
 overflow_add-t c =
     let l = c.loop-i in
-    record { fits = brev_fits c.args.num-bits c.args.x c.requires l.i l.rest l.t c.loop-i-test.true l.invariant.1 }
+    record { fits = brev_fits c.args.num_bits c.args.x c.requires l.i l.rest l.t c.loop-i-test.true l.invariant.1 }
 
 pub loop-i-preserved : goal.loop-i-preserved
 loop-i-preserved c =
     let l = c.loop-i in
-    (search rules, brev_turn c.args.num-bits c.args.x c.requires l.i l.rest l.t c.loop-i-test.true l.invariant.1)
+    (search rules, brev_turn c.args.num_bits c.args.x c.requires l.i l.rest l.t c.loop-i-test.true l.invariant.1)
 
 pub returns : goal.returns
-returns c = let l = c.loop-i in omega (arith, brev_end c.args.num-bits l.i l.rest (omega arith), l.invariant.1)
+returns c = let l = c.loop-i in omega (arith, brev_end c.args.num_bits l.i l.rest (omega arith), l.invariant.1)

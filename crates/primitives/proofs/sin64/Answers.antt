@@ -14,4 +14,4 @@ returns c =
     let w = c.wrapping_sub_i32 in
     let e = to_z-of_z c.ranges.angle in
     out c.cos64.ensures.1
-    (c.cos64.ensures.0 ∙ ap Cos64 (rd_ok w32 w.type-inv ∙ (rw e at w.ensures)) ∙ sin_wrap z)
+    (c.cos64.ensures.0 ∙ ap Cos64 (rd_ok w32 w.type_inv ∙ (rw e at w.ensures)) ∙ sin_wrap z)

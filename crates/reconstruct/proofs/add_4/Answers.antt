@@ -11,14 +11,14 @@ use Rattle.reconstruct.proofs.add_4.Goals as goal
 use Rattle.reconstruct.proofs.add_4.Goals.{After-dequantize, After-passes_4}
 
 -- the block after dequantizing
-coefs : (c : After-dequantize) → let a = c.args in c.dequantize.new.block ≡ in_front 16 0 a.dc-quant a.ac-quant a.tokens.now
+coefs : (c : After-dequantize) → let a = c.args in c.dequantize.new.block ≡ in_front 16 0 a.dc_quant a.ac_quant a.tokens.now
 coefs c =
     let a = c.args in
-    in_front_lem 16 0 a.dc-quant a.ac-quant a.tokens.now _ _ refl c.dequantize.ensures
+    in_front_lem 16 0 a.dc_quant a.ac_quant a.tokens.now _ _ refl c.dequantize.ensures
 
 -- and after the transform
 residuals : (c : After-passes_4) → let a = c.args in
-    c.passes_4.new.block ≡ inverse2d 2 a.tx_type a.lossless (in_front 16 0 a.dc-quant a.ac-quant a.tokens.now)
+    c.passes_4.new.block ≡ inverse2d 2 a.tx_type a.lossless (in_front 16 0 a.dc_quant a.ac_quant a.tokens.now)
 residuals c = rw (coefs c.before.before) at c.passes_4.ensures
 
 pub dequantize-requires : goal.dequantize-requires
@@ -30,7 +30,7 @@ pub passes_4-requires : goal.passes_4-requires
 passes_4-requires c =
     let a = c.args in
     rw (coefs c.before)
-    (block_length 0 a.dc-quant a.ac-quant a.tx_type a.lossless a.tokens.now c.requires.1, block_within 0 a.dc-quant a.ac-quant a.tx_type a.lossless a.tokens.now c.requires.1)
+    (block_length 0 a.dc_quant a.ac_quant a.tx_type a.lossless a.tokens.now c.requires.1, block_within 0 a.dc_quant a.ac_quant a.tx_type a.lossless a.tokens.now c.requires.1)
 
 pub add_back4-requires : goal.add_back4-requires
 add_back4-requires c =
@@ -38,8 +38,8 @@ add_back4-requires c =
     let t = c.requires.1 in
     rw (residuals c.before.before) (
       c.requires.0,
-      inverse2d_length 2 a.tx_type a.lossless (in_front 16 0 a.dc-quant a.ac-quant a.tokens.now) ∙ block_length 0 a.dc-quant a.ac-quant a.tx_type a.lossless a.tokens.now t,
-      residual_within 0 a.dc-quant a.ac-quant a.tx_type a.lossless a.tokens.now t,
+      inverse2d_length 2 a.tx_type a.lossless (in_front 16 0 a.dc_quant a.ac_quant a.tokens.now) ∙ block_length 0 a.dc_quant a.ac_quant a.tx_type a.lossless a.tokens.now t,
+      residual_within 0 a.dc_quant a.ac_quant a.tx_type a.lossless a.tokens.now t,
     )
 
 pub returns : goal.returns
@@ -49,4 +49,4 @@ returns c =
     c.add_back4.ensures
     ∙ rw (residuals c.before.before.before.before.before)
     (same_residuals a.plane a.samples.now c.requires.0 a.top a.x a.y 4 _ _
-    (residual_at 0 a.dc-quant a.ac-quant a.tx_type a.lossless a.tokens.now c.requires.1))
+    (residual_at 0 a.dc_quant a.ac_quant a.tx_type a.lossless a.tokens.now c.requires.1))

@@ -16,10 +16,10 @@ module _ (e : Else-code-ne0) where
   zero : number e.check_tokens-answer.result ≡ 0
   zero = sym e.code.ensures ∙ e.if-code-ne0.false
 
-  accepted : let a = e.args in Accepted a.size a.dc-quant a.ac-quant a.tx_type a.lossless a.tokens.now
+  accepted : let a = e.args in Accepted a.size a.dc_quant a.ac_quant a.tx_type a.lossless a.tokens.now
   accepted =
       let a = e.args in
-      taken a.size a.dc-quant a.ac-quant a.tx_type a.lossless a.bit-depth a.tokens.now e.requires.1 (sym e.check_tokens-answer.ensures ∙ zero)
+      taken a.size a.dc_quant a.ac_quant a.tx_type a.lossless a.bit_depth a.tokens.now e.requires.1 (sym e.check_tokens-answer.ensures ∙ zero)
 
 pub returns-then-code-ne0 : goal.returns-then-code-ne0
 returns-then-code-ne0 c = record { answered = c.check_tokens-answer.ensures; written = λ e. absurd (c.if-code-ne0.true (c.code.ensures ∙ e)); kept = λ h. refl }
@@ -27,14 +27,14 @@ returns-then-code-ne0 c = record { answered = c.check_tokens-answer.ensures; wri
 pub add_4-requires : goal.add_4-requires
 add_4-requires c =
     let a = c.args in
-    (c.requires.0, sized_taken a.size 0 a.dc-quant a.ac-quant a.tx_type a.lossless a.tokens.now c.if-size-eq0.true (accepted c.before.before.before))
+    (c.requires.0, sized_taken a.size 0 a.dc_quant a.ac_quant a.tx_type a.lossless a.tokens.now c.if-size-eq0.true (accepted c.before.before.before))
 
 pub returns-then-size-eq0 : goal.returns-then-size-eq0
 returns-then-size-eq0 c =
     let a = c.args in
     record {
       answered = c.check_tokens-answer.ensures;
-      written = λ z. same_added a.plane _ _ a.x a.y 0 a.size a.dc-quant a.ac-quant a.tx_type a.lossless a.tokens.now a.samples.now _
+      written = λ z. same_added a.plane _ _ a.x a.y 0 a.size a.dc_quant a.ac_quant a.tx_type a.lossless a.tokens.now a.samples.now _
           c.largest-top.ensures (sym c.if-size-eq0.true) c.add_4.ensures;
       kept = λ h. absurd (h (zero c.before.before.before.before.before.before));
     }
@@ -47,15 +47,15 @@ lossy c =
 pub add_wide-requires : goal.add_wide-requires
 add_wide-requires c =
     let a = c.args in
-    (c.requires.0, lossy_taken a.size a.dc-quant a.ac-quant a.tx_type a.lossless a.tokens.now (lossy c.before) (accepted c.before.before.before), omega (arith, c.if-size-eq0.false))
+    (c.requires.0, lossy_taken a.size a.dc_quant a.ac_quant a.tx_type a.lossless a.tokens.now (lossy c.before) (accepted c.before.before.before), omega (arith, c.if-size-eq0.false))
 
 pub returns : goal.returns
 returns c =
     let a = c.args in
     record {
       answered = c.check_tokens-answer.ensures;
-      written = λ z. same_added a.plane _ _ a.x a.y a.size a.size a.dc-quant a.ac-quant a.tx_type a.lossless a.tokens.now a.samples.now _
+      written = λ z. same_added a.plane _ _ a.x a.y a.size a.size a.dc_quant a.ac_quant a.tx_type a.lossless a.tokens.now a.samples.now _
           c.largest-top.ensures refl
-          (c.add_wide.ensures ∙ lossy_added a.plane _ a.x a.y a.size a.dc-quant a.ac-quant a.tx_type a.lossless a.tokens.now a.samples.now (lossy c.before.before.before.before));
+          (c.add_wide.ensures ∙ lossy_added a.plane _ a.x a.y a.size a.dc_quant a.ac_quant a.tx_type a.lossless a.tokens.now a.samples.now (lossy c.before.before.before.before));
       kept = λ h. absurd (h (zero c.before.before.before.before.before.before));
     }

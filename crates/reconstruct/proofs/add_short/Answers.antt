@@ -11,7 +11,7 @@ use Rattle.reconstruct.proofs.add_short.Goals as goal
 use Rattle.reconstruct.proofs.add_short.Goals.{Else-not-residual}
 
 -- the residual stands in the block
-served : (e : Else-not-residual) → let a = e.args in Served a.size a.dc-quant a.ac-quant a.tx_type a.tokens.now e.residual.new.z
+served : (e : Else-not-residual) → let a = e.args in Served a.size a.dc_quant a.ac_quant a.tx_type a.tokens.now e.residual.new.z
 served e = e.residual.ensures (not-false e.residual.result e.if-not-residual.false)
 
 pub add_back-requires : goal.add_back-requires
@@ -25,5 +25,5 @@ returns c =
     record {
       small = record { small = λ k h. omega (arith, t.small k h) };
       written = rw c.requires.2 at c.add_back.ensures
-          ∙ short_added a.plane a.top a.x a.y a.size a.dc-quant a.ac-quant a.tx_type a.tokens.now c.residual.new.z a.samples.now c.requires.0 t.made;
+          ∙ short_added a.plane a.top a.x a.y a.size a.dc_quant a.ac_quant a.tx_type a.tokens.now c.residual.new.z a.samples.now c.requires.0 t.made;
     }

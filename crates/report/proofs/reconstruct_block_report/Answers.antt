@@ -23,13 +23,13 @@ block s =
       plane = s.args.plane;
       x = s.args.x;
       y = s.args.y;
-      size = s.args.tx-sz;
+      size = s.args.tx_sz;
       tokens = s.args.tokens.now;
-      dc = s.args.dc-quant;
-      ac = s.args.ac-quant;
+      dc = s.args.dc_quant;
+      ac = s.args.ac_quant;
       tx_type = s.args.tx_type;
       lossless = s.args.lossless;
-      depth = s.args.bit-depth;
+      depth = s.args.bit_depth;
     }
 
 abbrev input : Start → Input
@@ -88,6 +88,6 @@ returns c =
     record {
       answered = r.answered ∙ e;
       written = r.written ∙ same_samples u e;
-      counted = note_all one a.tx-sz a.tokens.now (length a.tokens.now) u.counts _ c.count_tokens.ensures.0 ∙ list_done u one u.counts z;
-      summed = note_all itself a.tx-sz a.tokens.now (length a.tokens.now) u.sums _ c.count_tokens.ensures.1 ∙ list_done u itself u.sums z;
+      counted = note_all one a.tx_sz a.tokens.now (length a.tokens.now) u.counts _ c.count_tokens.ensures.0 ∙ list_done u one u.counts z;
+      summed = note_all itself a.tx_sz a.tokens.now (length a.tokens.now) u.sums _ c.count_tokens.ensures.1 ∙ list_done u itself u.sums z;
     }

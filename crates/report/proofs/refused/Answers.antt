@@ -13,13 +13,13 @@ input s =
       plane = s.args.plane;
       x = 0;
       y = 0;
-      size = s.args.tx-sz;
+      size = s.args.tx_sz;
       tokens = s.args.tokens.now;
-      dc = s.args.dc-quant;
-      ac = s.args.ac-quant;
+      dc = s.args.dc_quant;
+      ac = s.args.ac_quant;
       tx_type = s.args.tx_type;
       lossless = s.args.lossless;
-      depth = s.args.bit-depth;
+      depth = s.args.bit_depth;
     }
 
 pub returns-then-code-ne0 : goal.returns-then-code-ne0

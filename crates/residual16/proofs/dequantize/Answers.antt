@@ -19,11 +19,11 @@ module _ (s : Start) where
   long = omega (arith, s.requires.z_value.3, area_least (s.args.size + 2) (omega (arith, s.requires.z_value.1)) (omega (arith, s.requires.z_value.2)))
 
   -- what place 0 has, and all others
-  dc_short : Short s.args.size s.args.dc-quant.0 (get_or s.args.tokens.now 0 (pos 0))
+  dc_short : Short s.args.size s.args.dc_quant.0 (get_or s.args.tokens.now 0 (pos 0))
   unfolding quantizer_at
   dc_short = s.requires.dc_quant_value.2 0 (omega (arith, long))
 
-  ac_short : (k : ℕ) → 1 ≤ k → k < length s.args.tokens.now → Short s.args.size s.args.ac-quant.0 (get_or s.args.tokens.now k (pos 0))
+  ac_short : (k : ℕ) → 1 ≤ k → k < length s.args.tokens.now → Short s.args.size s.args.ac_quant.0 (get_or s.args.tokens.now k (pos 0))
   unfolding quantizer_at
   ac_short k h l = rw (ne_eqb k 0 (λ q. absurd (omega arith))) at (s.requires.dc_quant_value.2 k l)
 
@@ -32,22 +32,22 @@ module _ (s : Start) where
 
   -- a strip whose last rows are dead
   done : (dc : DcQuant) (q : ℕ) → bad_quantizer dc.0 ≡ false
-      → fill (8 * side (s.args.size + 2) * q + 8 * s.args.rows) (tiled s.args.size dc s.args.ac-quant s.args.tokens.now) zeros
-      ≡ fill (8 * side (s.args.size + 2) * (q + 1)) (tiled s.args.size dc s.args.ac-quant s.args.tokens.now) zeros
+      → fill (8 * side (s.args.size + 2) * q + 8 * s.args.rows) (tiled s.args.size dc s.args.ac_quant s.args.tokens.now) zeros
+      ≡ fill (8 * side (s.args.size + 2) * (q + 1)) (tiled s.args.size dc s.args.ac_quant s.args.tokens.now) zeros
   done dc q h =
-      strip_done s.args.size dc s.args.ac-quant s.args.tokens.now s.args.rows q s.requires.z_value.5 s.requires.z_value.6
-      (zero_token s.args.size dc s.args.ac-quant s.args.tokens.now h s.requires.dc_quant_value.1)
+      strip_done s.args.size dc s.args.ac_quant s.args.tokens.now s.args.rows q s.requires.z_value.5 s.requires.z_value.6
+      (zero_token s.args.size dc s.args.ac_quant s.args.tokens.now h s.requires.dc_quant_value.1)
 
 -- the first strip, with the eight tokens that hold the DC
-first_strip : (c : After-dequantize_strip) → c.dequantize_strip.new.z ≡ fill (8 * side (c.args.size + 2) * 1) (tiled c.args.size c.args.dc-quant c.args.ac-quant c.args.tokens.now) (replicate 1024 (pos 0))
+first_strip : (c : After-dequantize_strip) → c.dequantize_strip.new.z ≡ fill (8 * side (c.args.size + 2) * 1) (tiled c.args.size c.args.dc_quant c.args.ac_quant c.args.tokens.now) (replicate 1024 (pos 0))
 first_strip c =
     let a = c.args in
-    let f = tiled a.size a.dc-quant a.ac-quant a.tokens.now in
+    let f = tiled a.size a.dc_quant a.ac_quant a.tokens.now in
     let o = c.first_eight-o in
     let e : 8 * side (a.size + 2) * 0 + 8 * 1 ≡ 0 + 8 = omega (arith, NatL.mul-zero (8 * side (a.size + 2))) in
-    let p = fill_eight 0 f (zeros c.before.before.before.before.before.before) o.result a.z.now c.put.new.z (λ j l. o.ensures j l ∙ sym (tiled_first a.size a.dc-quant a.ac-quant a.tokens.now j l))
+    let p = fill_eight 0 f (zeros c.before.before.before.before.before.before) o.result a.z.now c.put.new.z (λ j l. o.ensures j l ∙ sym (tiled_first a.size a.dc_quant a.ac_quant a.tokens.now j l))
     (c.requires.z_value.0 ∙ fill_none f (zeros c.before.before.before.before.before.before)) c.put.ensures in
-    c.dequantize_strip.ensures a.dc-quant (rw e p) ∙ done c.before.before.before.before.before.before a.dc-quant 0 c.requires.dc_quant_value.0
+    c.dequantize_strip.ensures a.dc_quant (rw e p) ∙ done c.before.before.before.before.before.before a.dc_quant 0 c.requires.dc_quant_value.0
 
 pub loop-q-preserved : goal.loop-q-preserved
 loop-q-preserved c =
@@ -63,9 +63,9 @@ returns c =
     let r : c.side-q-end.result ≡ n0 = c.side-q-end.ensures.0 in
     let e : c.loop-q.q ≡ n0 / 8 = (let u : c.loop-q.q ≡ c.side-q-end.result / 8 = omega (arith, c.loop-q.invariant.1) in u ∙ ap (λ (x : ℕ). x / 8) r) in
     let f : 8 * n0 * c.loop-q.q ≡ area (a.size + 2) = ap (λ (x : ℕ). 8 * n0 * x) e ∙ whole_strips n0 (n0 / 8) w in
-    let g = rw f at (c.loop-q.invariant.2 a.dc-quant c.requires.dc_quant_value.0 (first_strip c.before.before.before)) in (
+    let g = rw f at (c.loop-q.invariant.2 a.dc_quant c.requires.dc_quant_value.0 (first_strip c.before.before.before)) in (
       ap length g ∙ length_fill _ _ (zeros c.before.before.before.before.before.before.before.before.before) ∙ length-replicate 1024 (pos 0),
-      tiled_all a.size a.dc-quant a.ac-quant a.tokens.now (n0 / 8) c.loop-q.z w (area_most a.size c.requires.z_value.2) c.requires.z_value.3 g,
+      tiled_all a.size a.dc_quant a.ac_quant a.tokens.now (n0 / 8) c.loop-q.z w (area_most a.size c.requires.z_value.2) c.requires.z_value.3 g,
     )
 
 pub first_eight-o-requires : goal.first_eight-o-requires

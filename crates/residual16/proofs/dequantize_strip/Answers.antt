@@ -47,10 +47,10 @@ loop-i-preserved c =
       omega (arith, c.loop-i.invariant.0),
       omega arith,
       λ dc h. rw e
-          (fill_eight (8 * side (c.args.size + 2) * c.args.q + 8 * c.loop-i.i) (tiled c.args.size dc c.args.ac-quant c.args.tokens.now) (replicate 1024 (pos 0))
+          (fill_eight (8 * side (c.args.size + 2) * c.args.q + 8 * c.loop-i.i) (tiled c.args.size dc c.args.ac_quant c.args.tokens.now) (replicate 1024 (pos 0))
           c.eight-o.result c.loop-i.z c.put.new.z
           (λ j l. rw c.side-n0.ensures.0 at (c.eight-o.ensures.1 j (omega arith) l)
-          ∙ sym (tiled_ac c.args.size dc c.args.ac-quant c.args.tokens.now c.args.q c.loop-i.i j (pow_pos (c.args.size + 2)) (omega (arith, c.requires.le_size.5)) l
+          ∙ sym (tiled_ac c.args.size dc c.args.ac_quant c.args.tokens.now c.args.q c.loop-i.i j (pow_pos (c.args.size + 2)) (omega (arith, c.requires.le_size.5)) l
           (omega (arith, c.requires.le_size.6, c.loop-i.invariant.0))))
           (c.loop-i.invariant.2 dc h) (rw c.side-n0.ensures.0 at c.put.ensures)),
     )

@@ -26,7 +26,7 @@ pub returns : goal.returns
 returns c =
     let t = to_z-of_z w64 (get_or c.args.tokens.now 0 (pos 0)) (record { sfits = c.dequant16-arg-1.given }) in
     let e = c.eight-o.ensures in
-    both c.args.size c.args.dc-quant c.args.ac-quant c.args.tokens.now c.eight-o.result _ e.0 e.1
+    both c.args.size c.args.dc_quant c.args.ac_quant c.args.tokens.now c.eight-o.result _ e.0 e.1
     (rd_ok w16 {z = c.dequant16.result} c.dequant16.type_inv ∙ rw t at c.dequant16.ensures)
 
 pub eight-o-requires : goal.eight-o-requires

@@ -15,11 +15,11 @@ use Rattle.residual16.proofs.residual.Goals as goal
 use Rattle.residual16.proofs.residual.Goals.{After-magnitude-first, Else-not-enough, Start}
 
 module _ (s : Start) where
-  abbrev lent : Lent s.args.size s.args.dc-quant s.args.ac-quant s.args.tx_type s.args.tokens.now
+  abbrev lent : Lent s.args.size s.args.dc_quant s.args.ac_quant s.args.tx_type s.args.tokens.now
   lent = s.requires.1
 
   first_in : 0 < length s.args.tokens.now
-  first_in = rw lent.all (some s.args.size s.args.dc-quant s.args.ac-quant s.args.tx_type s.args.tokens.now lent)
+  first_in = rw lent.all (some s.args.size s.args.dc_quant s.args.ac_quant s.args.tx_type s.args.tokens.now lent)
 
 -- the scan, and the first magnitude
 module _ (c : After-magnitude-first) where
@@ -42,18 +42,18 @@ pub enough-requires : goal.enough-requires
 enough-requires c =
     let s = s3 c in
     let a = s.args in
-    ((lent s).dc_ok, (lent s).ac_ok, λ h. rw (first_is c) (bounded a.size a.dc-quant a.ac-quant a.tx_type a.tokens.now (lent s) (all c) (added c) (strips c) (scanned c) h))
+    ((lent s).dc_ok, (lent s).ac_ok, λ h. rw (first_is c) (bounded a.size a.dc_quant a.ac_quant a.tx_type a.tokens.now (lent s) (all c) (added c) (strips c) (scanned c) h))
 
 -- 16 bits are enough
 module _ (e : Else-not-enough) where
   told : (all e.before.before ≤ 16383)
-      × (nat_abs (get_or e.args.tokens.now 0 (pos 0)) * nat_abs e.args.dc-quant.0 + (added e.before.before - nat_abs (get_or e.args.tokens.now 0 (pos 0))) * nat_abs e.args.ac-quant.0 ≤ 31883 * dq_denom e.args.size)
+      × (nat_abs (get_or e.args.tokens.now 0 (pos 0)) * nat_abs e.args.dc_quant.0 + (added e.before.before - nat_abs (get_or e.args.tokens.now 0 (pos 0))) * nat_abs e.args.ac_quant.0 ≤ 31883 * dq_denom e.args.size)
   told = rw (first_is e.before.before) at (e.enough.ensures (not-false e.enough.result e.if-not-enough.false))
 
-  shorts : (k : ℕ) → k < length e.args.tokens.now → Short e.args.size (quantizer_at e.args.dc-quant e.args.ac-quant k) (get_or e.args.tokens.now k (pos 0))
-  shorts = let a = e.args in short a.size a.dc-quant a.ac-quant a.tx_type a.tokens.now (lent e.before.before.before.before.before) (all e.before.before) (added e.before.before) (strips e.before.before) (scanned e.before.before) told.0 told.1
+  shorts : (k : ℕ) → k < length e.args.tokens.now → Short e.args.size (quantizer_at e.args.dc_quant e.args.ac_quant k) (get_or e.args.tokens.now k (pos 0))
+  shorts = let a = e.args in short a.size a.dc_quant a.ac_quant a.tx_type a.tokens.now (lent e.before.before.before.before.before) (all e.before.before) (added e.before.before) (strips e.before.before) (scanned e.before.before) told.0 told.1
 
-  dc_short : Short e.args.size e.args.dc-quant.0 (get_or e.args.tokens.now 0 (pos 0))
+  dc_short : Short e.args.size e.args.dc_quant.0 (get_or e.args.tokens.now 0 (pos 0))
   unfolding quantizer_at
   dc_short = shorts 0 (first_in e.before.before.before.before.before)
 
@@ -67,8 +67,8 @@ returns-then-tx_type-eq0 c =
     let s = s5 c.before.before.before.before.before.before.before in
     let a = s.args in
     let t = to_z-of_z w64 (get_or a.tokens.now 0 (pos 0)) (record { sfits = c.dequant16-arg-1.given }) in
-    let v : rd w16 c.dequant16.result ≡ dequant a.size a.dc-quant.0 (get_or a.tokens.now 0 (pos 0)) = rd_ok w16 {z = c.dequant16.result} c.dequant16.type_inv ∙ rw t at c.dequant16.ensures in
-    λ h. served_flat a.size a.dc-quant a.ac-quant a.tx_type a.tokens.now (lent s) (all c.before.before.before.before.before.before.before.before.before) (added c.before.before.before.before.before.before.before.before.before) (strips c.before.before.before.before.before.before.before.before.before) (scanned c.before.before.before.before.before.before.before.before.before) (told c.before.before.before.before.before.before.before).0 (told c.before.before.before.before.before.before.before).1
+    let v : rd w16 c.dequant16.result ≡ dequant a.size a.dc_quant.0 (get_or a.tokens.now 0 (pos 0)) = rd_ok w16 {z = c.dequant16.result} c.dequant16.type_inv ∙ rw t at c.dequant16.ensures in
+    λ h. served_flat a.size a.dc_quant a.ac_quant a.tx_type a.tokens.now (lent s) (all c.before.before.before.before.before.before.before.before.before) (added c.before.before.before.before.before.before.before.before.before) (strips c.before.before.before.before.before.before.before.before.before) (scanned c.before.before.before.before.before.before.before.before.before) (told c.before.before.before.before.before.before.before).0 (told c.before.before.before.before.before.before.before).1
     (c.if-w-first.true ∙ first_is c.before.before.before.before.before.before.before.before.before) c.if-tx_type-eq0.true
     a.z.now (set a.z.now 0 (rd w16 c.dequant16.result)) c.residual_dc.new.z s.pre.0 (ap (set a.z.now 0) v) c.residual_dc.ensures
 
@@ -88,16 +88,16 @@ passes-requires c =
       omega (arith, (lent s).larger),
       (lent s).possible,
       d.0,
-      few_coefs a.size a.dc-quant a.ac-quant a.tx_type a.tokens.now (lent s) (all c.before.before.before.before.before.before.before.before) (added c.before.before.before.before.before.before.before.before) (strips c.before.before.before.before.before.before.before.before) w (told c.before.before.before.before.before.before).0 (told c.before.before.before.before.before.before).1,
+      few_coefs a.size a.dc_quant a.ac_quant a.tx_type a.tokens.now (lent s) (all c.before.before.before.before.before.before.before.before) (added c.before.before.before.before.before.before.before.before) (strips c.before.before.before.before.before.before.before.before) w (told c.before.before.before.before.before.before).0 (told c.before.before.before.before.before.before).1,
       w.most,
-      dead_all a.size a.dc-quant a.ac-quant a.tx_type a.tokens.now (lent s) _ w.dead,
+      dead_all a.size a.dc_quant a.ac_quant a.tx_type a.tokens.now (lent s) _ w.dead,
     )
 
 pub returns : goal.returns
 returns c =
     let s = s5 c.before.before.before.before.before.before.before in
     let a = s.args in
-    λ h. served a.size a.dc-quant a.ac-quant a.tx_type a.tokens.now (lent s) (all c.before.before.before.before.before.before.before.before.before) (added c.before.before.before.before.before.before.before.before.before) (strips c.before.before.before.before.before.before.before.before.before) (scanned c.before.before.before.before.before.before.before.before.before) (told c.before.before.before.before.before.before.before).0 (told c.before.before.before.before.before.before.before).1
+    λ h. served a.size a.dc_quant a.ac_quant a.tx_type a.tokens.now (lent s) (all c.before.before.before.before.before.before.before.before.before) (added c.before.before.before.before.before.before.before.before.before) (strips c.before.before.before.before.before.before.before.before.before) (scanned c.before.before.before.before.before.before.before.before.before) (told c.before.before.before.before.before.before.before).0 (told c.before.before.before.before.before.before.before).1
     c.dequantize.new.z c.passes.new.z c.dequantize.ensures.1 c.passes.ensures
 
 pub bounds-tokens-0 : goal.bounds-tokens-0

@@ -11,8 +11,8 @@ use Rattle.row_pass.proofs.rows3.Goals as goal
 use Rattle.row_pass.proofs.rows3.Goals.{Start}
 
 -- all rows of the block
-job : (c : Start) → Job (lossy c.args.use-dct) 3 c.args.block.now
-job c = rows_job _ 3 _ (omega arith) (omega arith) (small_valid 2 c.args.use-dct 3 (omega arith) (omega arith)) c.requires.0 c.requires.1
+job : (c : Start) → Job (lossy c.args.use_dct) 3 c.args.block.now
+job c = rows_job _ 3 _ (omega arith) (omega arith) (small_valid 2 c.args.use_dct 3 (omega arith) (omega arith)) c.requires.0 c.requires.1
 
 pub row3-count-requires : goal.row3-count-requires
 row3-count-requires c =

@@ -11,8 +11,8 @@ use Rattle.row_pass.proofs.rows4.Goals as goal
 use Rattle.row_pass.proofs.rows4.Goals.{Start}
 
 -- all rows of the block
-job : (c : Start) → Job (lossy c.args.use-dct) 4 c.args.block.now
-job c = rows_job _ 4 _ (omega arith) (omega arith) (small_valid 2 c.args.use-dct 4 (omega arith) (omega arith)) c.requires.0 c.requires.1
+job : (c : Start) → Job (lossy c.args.use_dct) 4 c.args.block.now
+job c = rows_job _ 4 _ (omega arith) (omega arith) (small_valid 2 c.args.use_dct 4 (omega arith) (omega arith)) c.requires.0 c.requires.1
 
 pub row4-count-requires : goal.row4-count-requires
 row4-count-requires c =

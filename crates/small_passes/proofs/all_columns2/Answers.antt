@@ -10,8 +10,8 @@ use Rattle.small_passes.proofs.all_columns2.Goals as goal
 use Rattle.small_passes.proofs.all_columns2.Goals.{Start}
 
 -- all columns of the block
-job : (c : Start) → Job (lossy c.args.use-dct) 2 4 (λ z. Round2 z 4) (λ j. j) 4 c.args.block.now (columns (apply (lossy c.args.use-dct) 2) (λ z. Round2 z 4) 4 c.args.block.now)
-job c = columns_job _ 2 _ _ (omega arith) (omega arith) (small_valid 0 c.args.use-dct 2 (omega arith) (omega arith)) c.requires.0 c.requires.1
+job : (c : Start) → Job (lossy c.args.use_dct) 2 4 (λ z. Round2 z 4) (λ j. j) 4 c.args.block.now (columns (apply (lossy c.args.use_dct) 2) (λ z. Round2 z 4) 4 c.args.block.now)
+job c = columns_job _ 2 _ _ (omega arith) (omega arith) (small_valid 0 c.args.use_dct 2 (omega arith) (omega arith)) c.requires.0 c.requires.1
 
 pub line2-requires : goal.line2-requires
 line2-requires c = turn_safe (job c.before.before.before.before.before) c.loop-j.invariant c.loop-j-test.true c.load.ensures

@@ -9,8 +9,8 @@ use Rattle.small_passes.proofs.all_rows2.Goals as goal
 use Rattle.small_passes.proofs.all_rows2.Goals.{Start}
 
 -- all rows of the block
-job : (c : Start) → Job (lossy c.args.use-dct) 2 4 (λ z. z) (λ i. i * 4) 1 c.args.block.now (rows (apply (lossy c.args.use-dct) 2) 4 c.args.block.now)
-job c = rows_job _ 2 _ (omega arith) (omega arith) (small_valid 2 c.args.use-dct 2 (omega arith) (omega arith)) c.requires.0 c.requires.1
+job : (c : Start) → Job (lossy c.args.use_dct) 2 4 (λ z. z) (λ i. i * 4) 1 c.args.block.now (rows (apply (lossy c.args.use_dct) 2) 4 c.args.block.now)
+job c = rows_job _ 2 _ (omega arith) (omega arith) (small_valid 2 c.args.use_dct 2 (omega arith) (omega arith)) c.requires.0 c.requires.1
 
 pub line2-requires : goal.line2-requires
 line2-requires c = turn_safe (job c.before.before.before.before.before) c.loop-i.invariant c.loop-i-test.true c.load.ensures

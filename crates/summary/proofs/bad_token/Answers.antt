@@ -11,7 +11,7 @@ use Rattle.summary.proofs.bad_token.Goals as goal
 use Rattle.summary.proofs.bad_token.Goals.{After-max_codeable_coef-most}
 
 -- the limit
-limit : (c : After-max_codeable_coef-most) → rd w64 c.max_codeable_coef-most.result ≡ pos (codeable c.args.bit-depth)
+limit : (c : After-max_codeable_coef-most) → rd w64 c.max_codeable_coef-most.result ≡ pos (codeable c.args.bit_depth)
 limit c = rd_ok w64 {z = c.max_codeable_coef-most.result} c.max_codeable_coef-most.type_inv ∙ c.max_codeable_coef-most.ensures
 
 pub returns : goal.returns
@@ -19,4 +19,4 @@ returns c =
     rw (limit c.before, c.magnitude.ensures, to_z-of_z w64 c.args.token c.ranges.token)
 
 pub overflow_cast-most : goal.overflow_cast-most
-overflow_cast-most c = rw (limit c) (tt, record { fits = omega (arith, codeable_most c.args.bit-depth) })
+overflow_cast-most c = rw (limit c) (tt, record { fits = omega (arith, codeable_most c.args.bit_depth) })

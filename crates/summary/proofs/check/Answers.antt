@@ -18,29 +18,29 @@ use Rattle.summary.proofs.check.Goals as goal
 use Rattle.summary.proofs.check.Goals.{After-area-count, Else-bad_depth, Else-bad_quantizers, Else-bad_size, Else-bad_token, Else-block-count, Else-count-place}
 
 -- what each passed test says
-no1 : (c : Else-bad_depth) → bad_depth c.args.bit-depth ≡ false
+no1 : (c : Else-bad_depth) → bad_depth c.args.bit_depth ≡ false
 no1 c = sym c.bad_depth.ensures ∙ c.if-bad_depth.false
 
-no2 : (c : Else-bad_size) → bad_size c.args.tx-sz ≡ false
+no2 : (c : Else-bad_size) → bad_size c.args.tx_sz ≡ false
 no2 c = sym c.bad_size.ensures ∙ c.if-bad_size.false
 
-no3 : (c : Else-bad_quantizers) → let a = c.args in bad_quantizer a.dc-quant.0 || bad_quantizer a.ac-quant.0 ≡ false
+no3 : (c : Else-bad_quantizers) → let a = c.args in bad_quantizer a.dc_quant.0 || bad_quantizer a.ac_quant.0 ≡ false
 no3 c = sym c.bad_quantizers.ensures ∙ c.if-bad_quantizers.false
 
-small : (c : Else-bad_quantizers) → c.args.tx-sz ≤ 3
+small : (c : Else-bad_quantizers) → c.args.tx_sz ≤ 3
 small c = ltb-false 3 _ (no2 c.before.before)
 
 -- the count of numbers
-counted : (c : After-area-count) → c.area-count.result ≡ area (c.args.tx-sz + 2)
+counted : (c : After-area-count) → c.area-count.result ≡ area (c.args.tx_sz + 2)
 counted c = c.area-count.ensures.0
 
-no4 : (c : Else-block-count) → let a = c.args in not (eqb (length a.block.now) (area (a.tx-sz + 2))) ≡ false
+no4 : (c : Else-block-count) → let a = c.args in not (eqb (length a.block.now) (area (a.tx_sz + 2))) ≡ false
 no4 c = ap not (eq-eqb _ _ (c.if-block-count.false ∙ counted c.before))
 
-no5 : (c : Else-count-place) → let a = c.args in not (ltb a.place (area (a.tx-sz + 2))) ≡ false
+no5 : (c : Else-count-place) → let a = c.args in not (ltb a.place (area (a.tx_sz + 2))) ≡ false
 no5 c = ap not (lt-ltb _ _ (rw (counted c.before.before) at c.if-count-place.false))
 
-no6 : (c : Else-bad_token) → let a = c.args in ltb (codeable a.bit-depth) (nat_abs a.token) ≡ false
+no6 : (c : Else-bad_token) → let a = c.args in ltb (codeable a.bit_depth) (nat_abs a.token) ≡ false
 no6 c =
     rw (to_z-of_z w64 c.args.token c.ranges.token) at (sym c.bad_token.ensures ∙ c.if-bad_token.false)
 
@@ -75,7 +75,7 @@ returns-then-bad_token c =
 pub bad_coefficient-requires : goal.bad_coefficient-requires
 bad_coefficient-requires c =
     rw (to_z-of_z w64 c.args.token c.ranges.token)
-    (no3 c.before.before.before.before.before, omega (arith, ltb-false (codeable c.args.bit-depth) (nat_abs c.args.token) (no6 c), codeable_most c.args.bit-depth))
+    (no3 c.before.before.before.before.before, omega (arith, ltb-false (codeable c.args.bit_depth) (nat_abs c.args.token) (no6 c), codeable_most c.args.bit_depth))
 
 pub returns-then-bad_coefficient : goal.returns-then-bad_coefficient
 unfolding answer_of coefficient

@@ -20,12 +20,12 @@ given s =
     record {
       block = s.args.block.now;
       summary = s.args.summary.now;
-      size = s.args.tx-sz;
+      size = s.args.tx_sz;
       place = s.args.place;
       token = s.args.token;
-      dc = s.args.dc-quant;
-      ac = s.args.ac-quant;
-      depth = s.args.bit-depth;
+      dc = s.args.dc_quant;
+      ac = s.args.ac_quant;
+      depth = s.args.bit_depth;
     }
 
 -- the answer does not rest on the summary
@@ -59,7 +59,7 @@ pub renewed-requires : goal.renewed-requires
 renewed-requires c =
     let f = fine c.before.before.before in
     rw (c.side.ensures.0, length-set)
-    (pow_pos (c.args.tx-sz + 2), rw c.side.ensures.0 at c.side.ensures.1, f.inside, omega (arith, f.long))
+    (pow_pos (c.args.tx_sz + 2), rw c.side.ensures.0 at c.side.ensures.1, f.inside, omega (arith, f.long))
 
 pub returns : goal.returns
 returns c =

@@ -24,11 +24,11 @@ y_is c =
 -- rounded
 x_rounded : (c : After-round14-y) → let s = start c.before.before.before.before in
     rd w32 c.round14-x.result ≡ Round2 (spin_x s.args.t.now s.args.a s.args.b s.args.cos s.args.sin) 14
-x_rounded c = let r = c.round14-x in round_is c.turn-r.result.x r.type-inv r.ensures (x_is c.before.before.before)
+x_rounded c = let r = c.round14-x in round_is c.turn-r.result.x r.type_inv r.ensures (x_is c.before.before.before)
 
 y_rounded : (c : After-round14-y) → let s = start c.before.before.before.before in
     rd w32 c.round14-y.result ≡ Round2 (spin_y s.args.t.now s.args.a s.args.b s.args.cos s.args.sin) 14
-y_rounded c = let r = c.round14-y in round_is c.turn-r.result.y r.type-inv r.ensures (y_is c.before.before.before)
+y_rounded c = let r = c.round14-y in round_is c.turn-r.result.y r.type_inv r.ensures (y_is c.before.before.before)
 
 pub returns : goal.returns
 unfolding spin spin_fits

@@ -9,12 +9,12 @@ use Rattle.tokens.proofs.ac_bound.Goals as goal
 
 pub nonzero_div-largest_product : goal.nonzero_div-largest_product
 nonzero_div-largest_product c =
-    rw (number c.args.ac-quant.0 c.requires) (quantizer c.args.ac-quant.0 c.requires).least
+    rw (number c.args.ac_quant.0 c.requires) (quantizer c.args.ac_quant.0 c.requires).least
 
 pub returns : goal.returns
 returns c =
-    let q = c.args.ac-quant.0 in
+    let q = c.args.ac_quant.0 in
     rw (c.least.ensures, c.largest_product.ensures, ap nat_abs (number q c.requires)) (bounds c.args.size c.args.most q c.requires)
 
 pub overflow_cast-ac : goal.overflow_cast-ac
-overflow_cast-ac c = plain_cast c.args.ac-quant.0 c.requires
+overflow_cast-ac c = plain_cast c.args.ac_quant.0 c.requires

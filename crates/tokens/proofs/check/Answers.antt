@@ -27,7 +27,7 @@ no3 c = sym c.bad_lossless.ensures ∙ c.if-bad_lossless.false
 no4 : (c : Else-bad_tx_type) → let a = c.args in bad_tx_type a.lossless a.size a.tx_type ≡ false
 no4 c = sym c.bad_tx_type.ensures ∙ c.if-bad_tx_type.false
 
-no5 : (c : Else-bad_quantizers) → let a = c.args in bad_quantizers a.dc-quant a.ac-quant ≡ false
+no5 : (c : Else-bad_quantizers) → let a = c.args in bad_quantizers a.dc_quant a.ac_quant ≡ false
 no5 c = sym c.bad_quantizers.ensures ∙ c.if-bad_quantizers.false
 
 -- the count of numbers

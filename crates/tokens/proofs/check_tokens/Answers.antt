@@ -30,11 +30,11 @@ ac_bound-requires c = ac_fine _ _ c.requires.1
 
 -- the scan is both tests
 either : (c : After-some_above) → let a = c.args in
-    c.some_above.result ≡ any_beyond (codeable a.depth) (length a.tokens.now) a.tokens.now || bad_coefficient a.size a.dc-quant a.ac-quant a.tokens.now
+    c.some_above.result ≡ any_beyond (codeable a.depth) (length a.tokens.now) a.tokens.now || bad_coefficient a.size a.dc_quant a.ac_quant a.tokens.now
 either c =
     let a = c.args in
     c.some_above.ensures
-    ∙ rw (limit c.before.before.before) at (above_either a.size (nat_abs (rd w64 c.max_codeable_coef-most.result)) c.dc_bound.result c.ac_bound.result a.dc-quant a.ac-quant c.requires.1
+    ∙ rw (limit c.before.before.before) at (above_either a.size (nat_abs (rd w64 c.max_codeable_coef-most.result)) c.dc_bound.result c.ac_bound.result a.dc_quant a.ac_quant c.requires.1
     c.dc_bound.ensures c.ac_bound.ensures a.tokens.now)
 
 -- and the second scan the first of them
@@ -45,7 +45,7 @@ tokens_first c = rw (limit c.before.before.before.before.before) at c.any_beyond
 pub returns-then-all_small : goal.returns-then-all_small
 returns-then-all_small c =
     let a = c.args in
-    small_fine a.size a.depth a.dc-quant a.ac-quant a.tokens.now c.requires.0 c.requires.1 (c.all_small.ensures c.if-all_small.true)
+    small_fine a.size a.depth a.dc_quant a.ac_quant a.tokens.now c.requires.0 c.requires.1 (c.all_small.ensures c.if-all_small.true)
 
 pub returns-then-any_beyond : goal.returns-then-any_beyond
 unfolding token_answer
@@ -62,7 +62,7 @@ unfolding token_answer
 returns c =
     let a = c.args in
     let x = any_beyond (codeable a.depth) (length a.tokens.now) a.tokens.now in
-    let y = bad_coefficient a.size a.dc-quant a.ac-quant a.tokens.now in
+    let y = bad_coefficient a.size a.dc_quant a.ac_quant a.tokens.now in
     let e = none x y (sym (either c.before) ∙ c.if-some_above.false) in
     rw (e.0, e.1)
 

@@ -9,12 +9,12 @@ use Rattle.tokens.proofs.dc_bound.Goals as goal
 
 pub nonzero_div-largest_product : goal.nonzero_div-largest_product
 nonzero_div-largest_product c =
-    rw (number c.args.dc-quant.0 c.requires) (quantizer c.args.dc-quant.0 c.requires).least
+    rw (number c.args.dc_quant.0 c.requires) (quantizer c.args.dc_quant.0 c.requires).least
 
 pub returns : goal.returns
 returns c =
-    let q = c.args.dc-quant.0 in
+    let q = c.args.dc_quant.0 in
     rw (c.least.ensures, c.largest_product.ensures, ap nat_abs (number q c.requires)) (bounds c.args.size c.args.most q c.requires)
 
 pub overflow_cast-dc : goal.overflow_cast-dc
-overflow_cast-dc c = plain_cast c.args.dc-quant.0 c.requires
+overflow_cast-dc c = plain_cast c.args.dc_quant.0 c.requires

@@ -47,6 +47,6 @@ returns c =
     let t = tokens_are a.file.now a.at a.head n.result c.requires.0 c.requires.1 c.requires.2 n.ensures.0 z.result z.ensures r.new.1.1.1.0 r.ensures.1 in
     let q1 = c.quantizer in
     let q2 = c.quantizer-2 in
-    let d : to_z w32 (of_z w32 q1.result) ≡ pos a.head.dc = back32 q1.result q1.type-inv ∙ q1.ensures in
-    let b : to_z w32 (of_z w32 q2.result) ≡ pos a.head.ac = back32 q2.result q2.type-inv ∙ q2.ensures in
+    let d : to_z w32 (of_z w32 q1.result) ≡ pos a.head.dc = back32 q1.result q1.type_inv ∙ q1.ensures in
+    let b : to_z w32 (of_z w32 q2.result) ≡ pos a.head.ac = back32 q2.result q2.type_inv ∙ q2.ensures in
     (e.answered ∙ answer_is a.file.now a.at a.samples.now a.head a.fields _ _ _ c.requires.2 c.requires.3 t d b, e.written ∙ samples_are a.file.now a.at a.samples.now a.head a.fields _ _ _ c.requires.2 c.requires.3 t d b)
