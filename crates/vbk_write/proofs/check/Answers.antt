@@ -60,27 +60,27 @@ lossless_passed : (c : Else-any_above-2) → any_above 1 (lent c.before.before.b
 lossless_passed c = sym c.any_above-2.ensures ∙ c.if-any_above-2.false
 
 pub returns-then-bad_depth : goal.returns-then-bad_depth
-returns-then-bad_depth c = A.is-depth (lent c.before.before.before.before.before.before.before.before.before.before.before.before) c.args.room (sym (depth_is c.before) ∙ c.if-bad_depth.true)
+returns-then-bad_depth c = A.is_depth_lem (lent c.before.before.before.before.before.before.before.before.before.before.before.before) c.args.room (sym (depth_is c.before) ∙ c.if-bad_depth.true)
 
 pub returns-then-retired : goal.returns-then-retired
-returns-then-retired c = A.is-retired (lent c.before.before.before.before.before.before.before.before.before.before.before.before.before.before) c.args.room (depth_passed c.before.before) (sym (kept_is c.before) ∙ c.if-retired.true)
+returns-then-retired c = A.is_retired (lent c.before.before.before.before.before.before.before.before.before.before.before.before.before.before) c.args.room (depth_passed c.before.before) (sym (kept_is c.before) ∙ c.if-retired.true)
 
 pub returns-then-any_above : goal.returns-then-any_above
 returns-then-any_above c =
-    A.is-size (lent c.before.before.before.before.before.before.before.before.before.before.before.before.before.before.before.before) c.args.room (depth_passed c.before.before.before.before) (kept_passed c.before.before) (sym c.any_above.ensures ∙ c.if-any_above.true)
+    A.is_size (lent c.before.before.before.before.before.before.before.before.before.before.before.before.before.before.before.before) c.args.room (depth_passed c.before.before.before.before) (kept_passed c.before.before) (sym c.any_above.ensures ∙ c.if-any_above.true)
 
 pub returns-then-samples-area : goal.returns-then-samples-area
 returns-then-samples-area c =
     let l = lent c.before.before.before.before.before.before.before.before.before.before.before.before.before.before.before.before.before.before in
-    A.is-length l c.args.room (depth_passed c.before.before.before.before.before.before) (kept_passed c.before.before.before.before) (sizes_passed c.before.before)
-    (A.other-samples l (λ e. c.if-samples-area.true (e ∙ sym c.plane_area-area.ensures)))
+    A.is_length l c.args.room (depth_passed c.before.before.before.before.before.before) (kept_passed c.before.before.before.before) (sizes_passed c.before.before)
+    (A.other_samples l (λ e. c.if-samples-area.true (e ∙ sym c.plane_area-area.ensures)))
 
 pub returns-then-any_other : goal.returns-then-any_other
 unfolding bad_lists
 returns-then-any_other c =
     let l = lent c.before.before.before.before.before.before.before.before.before.before.before.before.before.before.before.before.before.before.before.before in
-    A.is-length l c.args.room (depth_passed c.before.before.before.before.before.before.before.before) (kept_passed c.before.before.before.before.before.before) (sizes_passed c.before.before.before.before)
-    (A.other-lists l (samples_passed c.before.before) (sym c.any_other.ensures ∙ c.if-any_other.true))
+    A.is_length l c.args.room (depth_passed c.before.before.before.before.before.before.before.before) (kept_passed c.before.before.before.before.before.before) (sizes_passed c.before.before.before.before)
+    (A.other_lists l (samples_passed c.before.before) (sym c.any_other.ensures ∙ c.if-any_other.true))
 
 pub bad_counts-requires : goal.bad_counts-requires
 bad_counts-requires c =
@@ -90,17 +90,17 @@ bad_counts-requires c =
 pub returns-then-bad_counts : goal.returns-then-bad_counts
 returns-then-bad_counts c =
     let l = lent c.before.before.before.before.before.before.before.before.before.before.before.before.before.before.before.before.before.before.before.before.before.before in
-    A.is-length l c.args.room (depth_passed c.before.before.before.before.before.before.before.before.before.before) (kept_passed c.before.before.before.before.before.before.before.before) (sizes_passed c.before.before.before.before.before.before)
-    (A.other-counts l (samples_passed c.before.before.before.before) (lists_passed c.before.before) (sym c.bad_counts.ensures ∙ c.if-bad_counts.true))
+    A.is_length l c.args.room (depth_passed c.before.before.before.before.before.before.before.before.before.before) (kept_passed c.before.before.before.before.before.before.before.before) (sizes_passed c.before.before.before.before.before.before)
+    (A.other_counts l (samples_passed c.before.before.before.before) (lists_passed c.before.before) (sym c.bad_counts.ensures ∙ c.if-bad_counts.true))
 
 pub returns-then-too_large : goal.returns-then-too_large
 returns-then-too_large c =
-    A.is-large (lent c.before.before.before.before.before.before.before.before.before.before.before.before.before.before.before.before.before.before.before.before.before.before.before.before) c.args.room (depth_passed c.before.before.before.before.before.before.before.before.before.before.before.before) (kept_passed c.before.before.before.before.before.before.before.before.before.before) (sizes_passed c.before.before.before.before.before.before.before.before) (fits c.before.before)
+    A.is_large (lent c.before.before.before.before.before.before.before.before.before.before.before.before.before.before.before.before.before.before.before.before.before.before.before.before) c.args.room (depth_passed c.before.before.before.before.before.before.before.before.before.before.before.before) (kept_passed c.before.before.before.before.before.before.before.before.before.before) (sizes_passed c.before.before.before.before.before.before.before.before) (fits c.before.before)
     (sym (large_is c.before) ∙ c.if-too_large.true)
 
 pub returns-then-any_above-2 : goal.returns-then-any_above-2
 returns-then-any_above-2 c =
-    A.is-lossless (lent c.before.before.before.before.before.before.before.before.before.before.before.before.before.before.before.before.before.before.before.before.before.before.before.before.before.before) c.args.room (depth_passed c.before.before.before.before.before.before.before.before.before.before.before.before.before.before) (kept_passed c.before.before.before.before.before.before.before.before.before.before.before.before) (sizes_passed c.before.before.before.before.before.before.before.before.before.before) (fits c.before.before.before.before) (large_passed c.before.before)
+    A.is_lossless (lent c.before.before.before.before.before.before.before.before.before.before.before.before.before.before.before.before.before.before.before.before.before.before.before.before.before.before) c.args.room (depth_passed c.before.before.before.before.before.before.before.before.before.before.before.before.before.before) (kept_passed c.before.before.before.before.before.before.before.before.before.before.before.before) (sizes_passed c.before.before.before.before.before.before.before.before.before.before) (fits c.before.before.before.before) (large_passed c.before.before)
     (sym c.any_above-2.ensures ∙ c.if-any_above-2.true)
 
 pub file_length-requires : goal.file_length-requires
@@ -117,10 +117,10 @@ length_is c =
 
 pub returns-then-room-file_length : goal.returns-then-room-file_length
 returns-then-room-file_length c =
-    A.is-room (lent c.before.before.before.before.before.before.before.before.before.before.before.before.before.before.before.before.before.before.before.before.before.before.before.before.before.before.before.before) c.args.room (depth_passed c.before.before.before.before.before.before.before.before.before.before.before.before.before.before.before.before) (kept_passed c.before.before.before.before.before.before.before.before.before.before.before.before.before.before) (sizes_passed c.before.before.before.before.before.before.before.before.before.before.before.before) (fits c.before.before.before.before.before.before) (large_passed c.before.before.before.before) (lossless_passed c.before.before)
+    A.is_room (lent c.before.before.before.before.before.before.before.before.before.before.before.before.before.before.before.before.before.before.before.before.before.before.before.before.before.before.before.before) c.args.room (depth_passed c.before.before.before.before.before.before.before.before.before.before.before.before.before.before.before.before) (kept_passed c.before.before.before.before.before.before.before.before.before.before.before.before.before.before) (sizes_passed c.before.before.before.before.before.before.before.before.before.before.before.before) (fits c.before.before.before.before.before.before) (large_passed c.before.before.before.before) (lossless_passed c.before.before)
     (length_is c.before) c.if-room-file_length.true
 
 pub returns : goal.returns
 returns c =
-    A.is-done (lent c.before.before.before.before.before.before.before.before.before.before.before.before.before.before.before.before.before.before.before.before.before.before.before.before.before.before.before.before) c.args.room (depth_passed c.before.before.before.before.before.before.before.before.before.before.before.before.before.before.before.before) (kept_passed c.before.before.before.before.before.before.before.before.before.before.before.before.before.before) (sizes_passed c.before.before.before.before.before.before.before.before.before.before.before.before) (fits c.before.before.before.before.before.before) (large_passed c.before.before.before.before) (lossless_passed c.before.before)
+    A.is_done_lem (lent c.before.before.before.before.before.before.before.before.before.before.before.before.before.before.before.before.before.before.before.before.before.before.before.before.before.before.before.before) c.args.room (depth_passed c.before.before.before.before.before.before.before.before.before.before.before.before.before.before.before.before) (kept_passed c.before.before.before.before.before.before.before.before.before.before.before.before.before.before) (sizes_passed c.before.before.before.before.before.before.before.before.before.before.before.before) (fits c.before.before.before.before.before.before) (large_passed c.before.before.before.before) (lossless_passed c.before.before)
     (length_is c.before) c.if-room-file_length.false
