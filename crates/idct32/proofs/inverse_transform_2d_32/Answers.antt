@@ -90,7 +90,7 @@ returns-then-not-take c =
 work : (c : Else-not-take) → Entered (given c.before.before.before.before.before.before.before.before) c.take.new.work
 work c =
     let r = c.if-not-take.false in
-    entered (given c.before.before.before.before.before.before.before.before) c.take.new.work (passed c.before.before.before.before.before) (sym (test c.before.before) ∙ r) (rw (c.area-count.ensures.0, c.zeros-work.ensures) at (c.take.ensures.then r))
+    entered (given c.before.before.before.before.before.before.before.before) c.take.new.work (passed c.before.before.before.before.before) (sym (test c.before) ∙ r) (rw (c.area-count.ensures.0, c.zeros-work.ensures) at (c.take.ensures.then r))
 
 sum_is : (c : After-total-sum) → c.total-sum.result ≡ total (area (given c.before.before.before.before.before.before.before.before.before.before).n) c.take.new.work
 sum_is c = rw c.area-count.ensures.0 at c.total-sum.ensures

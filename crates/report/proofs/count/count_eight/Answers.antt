@@ -25,7 +25,7 @@ overflow_add-counts c =
 pub returns-then-not-any_live : goal.returns-then-not-any_live
 returns-then-not-any_live c =
     let a = c.args in
-    let z = sym c.any_live.ensures ∙ turned _ c.if-not-any_live.true in
+    let z = sym c.any_live.ensures ∙ turned _ (ap not c.if-not-any_live.true) in
     (zeros_counted a.size a.start 8 a.tokens.now z a.counts.now, zeros_summed a.size a.start 8 a.tokens.now z a.sums.now)
 
 pub loop-i-init : goal.loop-i-init
