@@ -36,9 +36,7 @@ pub returns-then-x-lt0 : goal.returns-then-x-lt0
 returns-then-x-lt0 c = (
   λ e. absurd (omega (arith, seen c, most c.before.before)),
   λ e. absurd (omega (arith, some c.before, ap nat_abs e)),
-
-pub returns-then-x-lt0 : goal.returns-then-x-lt0
-returns-then-x-lt0 c =
+)
 
 pub overflow_cast-result : goal.overflow_cast-result
 overflow_cast-result c = rw (plain c.before) (not_neg c.args.x c.ranges.x (rw (plain c.before) at c.if-x-lt0.false))

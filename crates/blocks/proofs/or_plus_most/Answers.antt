@@ -18,4 +18,4 @@ loop-k-preserved c =
     (omega arith, plus_most_more a.s.now a.start a.most c.loop-k.k c.loop-k.all c.plus_most-all.result (rw e at c.plus_most-all.ensures) c.loop-k.invariant.1)
 
 pub returns : goal.returns
-returns c = c.loop-k.invariant.1 h k (omega arith)
+returns c h k l = c.loop-k.invariant.1 h k (omega arith)

@@ -21,10 +21,10 @@ seen : (c : After-magnitude-m) → c.magnitude-m.result ≡ nat_abs c.args.x
 seen c = c.magnitude-m.ensures ∙ ap nat_abs (plain c.before.before)
 
 pub returns-then-m-most : goal.returns-then-m-most
-returns-then-m-most c = omega (arith, seen c.before, c.if-m-most.true)
+returns-then-m-most c h = omega (arith, seen c.before, c.if-m-most.true)
 
 pub returns-then-x-lt0 : goal.returns-then-x-lt0
-returns-then-x-lt0 c = absurd (omega (arith, seen c.before, most c.before.before.before, c.requires))
+returns-then-x-lt0 c h = absurd (omega (arith, seen c.before, most c.before.before.before, c.requires))
 
 pub overflow_cast-result : goal.overflow_cast-result
 overflow_cast-result c = rw (plain c.before) (not_neg c.args.x c.ranges.x (rw (plain c.before) at c.if-x-lt0.false))

@@ -37,9 +37,7 @@ loop-k-preserved c = (
   search rules,
   times_more _ _ _ c.loop-k.invariant.1 (rw (to_z-of_z {w = w64} (record { sfits = c.s-1.given }))),
   simp length-set c.loop-k.invariant.2,
-
-pub loop-k-preserved : goal.loop-k-preserved
-loop-k-preserved c =
+)
 
 pub returns : goal.returns
 unfolding set_line

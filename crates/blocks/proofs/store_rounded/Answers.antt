@@ -26,9 +26,7 @@ round2-requires c = (
   search rules,
   search rules,
   rw (to_z-of_z {w = w64} (record { sfits = c.round2-arg-1.given })) (c.requires.4.each _ c.loop-k-test.true),
-
-pub round2-requires : goal.round2-requires
-round2-requires c =
+)
 
 pub overflow_mul-k : goal.overflow_mul-k
 overflow_mul-k c = omega (arith, below c.before.before)

@@ -1,3 +1,5 @@
+use mathlib.Core.List.{List}
+use Prim.Native.Nat.{ℕ}
 -- `flat::fsb` meets its contract.
 use mathlib.Core.Path.{◌≡◌}
 use lib.IntN.{ℤ, pos}
@@ -8,18 +10,24 @@ use Rattle.whole.proofs.Signed.{rd}
 use Rattle.primitives.specs.Rotations.{apply_sb, set_pair, turn_x, turn_y}
 use Rattle.steps.specs.Step2.{step2}
 use Rattle.flat.proofs.Three.{rotated}
+use Rattle.flat.proofs.fsb.Lts as lts
+use Rattle.flat.proofs.fsb.Tie as tie
+use Rattle.flat.proofs.fsb.Reads as reads
 use Rattle.flat.proofs.fsb.Goals as goal
-use Rattle.flat.proofs.fsb.Goals.{After-struct_told-1, After-turn-r}
+
+-- the place behind a call, with what was known there
+abbrev After-struct_told-1 : Type 0
+After-struct_told-1 = lts.After-struct_told tie.the-claims reads.Pre reads.Post
 
 -- a value of the operands
-abbrev of : (ℤ → ℤ → ℤ → ℤ) → After-turn-r → ℤ
-of f c = let s = start c in f (get_or s.args.t.now s.args.a (pos 0)) (get_or s.args.t.now s.args.b (pos 0)) s.args.angle
+abbrev of : (ℤ → ℤ → ℤ → ℤ) → List ℤ → ℕ → ℕ → ℤ → ℤ
+of f t a b angle = f (get_or t a (pos 0)) (get_or t b (pos 0)) angle
 
-x_is : (c : After-struct_told-1) → rd w64 c.turn-r.result.x ≡ of turn_x c
-x_is c = let s = start c.before in rotated turn_x c.struct_told-1.given.0.1 s.pre.2 s.pre.3 s.fits.angle c.turn-r.ensures.0
+x_is : (c : After-struct_told-1) → rd w64 c.turn-r.result.x ≡ of turn_x c.args.t.now c.args.a c.args.b c.args.angle
+x_is c = rotated turn_x c.struct_told-1.given.0.1 c.requires.2 c.requires.3 c.ranges.angle c.turn-r.ensures.0
 
-y_is : (c : After-struct_told-1) → rd w64 c.turn-r.result.y ≡ of turn_y c
-y_is c = let s = start c.before in rotated turn_y c.struct_told-1.given.1.0.1 s.pre.2 s.pre.3 s.fits.angle c.turn-r.ensures.1
+y_is : (c : After-struct_told-1) → rd w64 c.turn-r.result.y ≡ of turn_y c.args.t.now c.args.a c.args.b c.args.angle
+y_is c = rotated turn_y c.struct_told-1.given.1.0.1 c.requires.2 c.requires.3 c.ranges.angle c.turn-r.ensures.1
 
 pub returns-then-flip : goal.returns-then-flip
 unfolding step2 apply_sb set_pair

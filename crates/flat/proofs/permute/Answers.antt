@@ -1,7 +1,6 @@
 -- `flat::permute` meets its contract: after a groups of k and b turns more, one exchange for each number below k a + b.
 use mathlib.Core.Path.{◌≡◌, sym, ap, ◌∙◌}
 use mathlib.Core.List.{List}
-use mathlib.Core.Logic.{⊎_elim}
 use Prim.Native.Nat.{ℕ, ◌+◌, ◌-◌, ◌*◌, ◌^◌, ◌≤◌, ◌<◌}
 use native.Mathlib.Nat as NatL
 use native.Mathlib.Omega.{arith}
@@ -15,7 +14,7 @@ use Rattle.primitives.specs.Brev.{Brev}
 use Rattle.primitives.proofs.Reversal.{brev_lt}
 use Rattle.flat.proofs.Exchange.{exchange, exchanges, exchanges_none, exchanges_more, exchange_taken, exchange_left, reversed, inside, group}
 use Rattle.flat.proofs.permute.Goals as goal
-use Rattle.flat.proofs.permute.Goals.{After-brev-j, In-loop-b, Joined-i-j}
+use Rattle.flat.proofs.permute.Goals.{then-i-j, else-i-j, After-brev-j, In-loop-b, Joined-i-j}
 
 -- the place of a turn, and its reverse, are places of t
 place : (c : In-loop-b) → c.args.k * c.loop-a.a + c.loop-b.b < 32
@@ -35,9 +34,7 @@ pub loop-a-init : goal.loop-a-init
 loop-a-init c = (
   omega arith,
   exchanges_none (Brev c.args.n) c.args.t.now ∙ ap (λ (m : ℕ). exchanges (Brev c.args.n) m c.args.t.now) (sym (NatL.mul-zero c.args.k)),
-
-pub loop-a-init : goal.loop-a-init
-loop-a-init c =
+)
 
 pub loop-b-init : goal.loop-b-init
 loop-b-init c =
@@ -80,12 +77,11 @@ turn c =
     let i = c.args.k * c.loop-a.a + c.loop-b.b in
     let j = c.brev-j.result in
     let y = c.loop-b.t in
-    ⊎_elim
-    (λ w.
-    w.3
-    ∙ rw (rd_ok w64 {z = get_or y i (pos 0)} w.1.given, rd_ok w64 {z = get_or y j (pos 0)} w.2.given) (sym (exchange_taken i j y w.0.taken)))
-    (λ w. w.1 ∙ sym (exchange_left i j y w.0.left))
-    c.if-i-j.branch
+    elim c.if-i-j.branch [
+      then-i-j w ↦ w.t-is
+      ∙ rw (rd_ok w64 {z = get_or y i (pos 0)} w.x-1.given, rd_ok w64 {z = get_or y j (pos 0)} w.t-1.given) (sym (exchange_taken i j y w.if-i-j.true))
+      | else-i-j w ↦ w.t-is ∙ sym (exchange_left i j y w.if-i-j.false)
+    ]
 
 pub loop-b-preserved : goal.loop-b-preserved
 loop-b-preserved c =
@@ -98,12 +94,11 @@ loop-b-preserved c =
     )
 
 pub loop-a-preserved : goal.loop-a-preserved
-loop-a-preserved c =
-    (
-      omega arith,
-      c.loop-b.invariant.1 c.args.t.now c.loop-a.invariant.1
-          ∙ ap (λ (m : ℕ). exchanges (Brev c.args.n) m c.args.t.now) (group c.args.k c.loop-a.a c.loop-b.b (omega arith) (omega arith)),
-    )
+loop-a-preserved c = (
+  omega arith,
+  c.loop-b.invariant.1 c.args.t.now c.loop-a.invariant.1
+      ∙ ap (λ (m : ℕ). exchanges (Brev c.args.n) m c.args.t.now) (group c.args.k c.loop-a.a c.loop-b.b (omega arith) (omega arith)),
+)
 
 pub returns : goal.returns
 returns c =

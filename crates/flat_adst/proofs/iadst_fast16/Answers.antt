@@ -15,8 +15,75 @@ use Rattle.adst.specs.Adst.{adst_in, adst_out, on_t, adst16_steps, adst_steps, a
 use Rattle.adst.specs.Inner.{arrays}
 use Rattle.flat.proofs.Straight.{Done, begin, call, next, end}
 use Rattle.flat.proofs.Arrays.{next_T}
+use Rattle.flat_adst.proofs.iadst_fast16.Lts as lts
+use Rattle.flat_adst.proofs.iadst_fast16.Tie as tie
+use Rattle.flat_adst.proofs.iadst_fast16.Reads as reads
 use Rattle.flat_adst.proofs.iadst_fast16.Goals as goal
-use Rattle.flat_adst.proofs.iadst_fast16.Goals.{After-fb, After-fb-2, After-fb-3, After-fb-4, After-fh, After-fh-2, After-fh-3, After-fh-4, After-fh-5, After-fh-6, After-fh-7, After-fh-8, After-fneg, After-fneg-2, After-fneg-3, After-fneg-4, After-fsb, After-fsb-10, After-fsb-11, After-fsb-12, After-fsb-13, After-fsb-14, After-fsb-15, After-fsb-16, After-fsb-2, After-fsb-3, After-fsb-4, After-fsb-5, After-fsb-6, After-fsb-7, After-fsb-8, After-fsb-9, After-fsh, After-fsh-10, After-fsh-11, After-fsh-12, After-fsh-13, After-fsh-14, After-fsh-15, After-fsh-16, After-fsh-2, After-fsh-3, After-fsh-4, After-fsh-5, After-fsh-6, After-fsh-7, After-fsh-8, After-fsh-9, After-input16, After-output16, Start}
+use Rattle.flat_adst.proofs.iadst_fast16.Goals.{After-fb, After-fb-2, After-fb-3, After-fb-4, After-fh, After-fh-2, After-fh-3, After-fh-4, After-fh-5, After-fh-6, After-fh-7, After-fh-8, After-fneg, After-fneg-2, After-fneg-3, After-fneg-4, After-fsh, After-fsh-10, After-fsh-11, After-fsh-12, After-fsh-13, After-fsh-14, After-fsh-15, After-fsh-16, After-fsh-2, After-fsh-3, After-fsh-4, After-fsh-5, After-fsh-6, After-fsh-7, After-fsh-8, After-fsh-9, After-input16, After-output16, Start}
+
+-- the place behind a call, with what was known there
+abbrev After-fsb-10 : Type 0
+After-fsb-10 = lts.After-fsb10 tie.the-claims reads.Pre reads.Post
+
+-- the place behind a call, with what was known there
+abbrev After-fsb-11 : Type 0
+After-fsb-11 = lts.After-fsb11 tie.the-claims reads.Pre reads.Post
+
+-- the place behind a call, with what was known there
+abbrev After-fsb-12 : Type 0
+After-fsb-12 = lts.After-fsb12 tie.the-claims reads.Pre reads.Post
+
+-- the place behind a call, with what was known there
+abbrev After-fsb-13 : Type 0
+After-fsb-13 = lts.After-fsb13 tie.the-claims reads.Pre reads.Post
+
+-- the place behind a call, with what was known there
+abbrev After-fsb-14 : Type 0
+After-fsb-14 = lts.After-fsb14 tie.the-claims reads.Pre reads.Post
+
+-- the place behind a call, with what was known there
+abbrev After-fsb-15 : Type 0
+After-fsb-15 = lts.After-fsb15 tie.the-claims reads.Pre reads.Post
+
+-- the place behind a call, with what was known there
+abbrev After-fsb-16 : Type 0
+After-fsb-16 = lts.After-fsb16 tie.the-claims reads.Pre reads.Post
+
+-- the place behind a call, with what was known there
+abbrev After-fsb-2 : Type 0
+After-fsb-2 = lts.After-fsb2 tie.the-claims reads.Pre reads.Post
+
+-- the place behind a call, with what was known there
+abbrev After-fsb-3 : Type 0
+After-fsb-3 = lts.After-fsb3 tie.the-claims reads.Pre reads.Post
+
+-- the place behind a call, with what was known there
+abbrev After-fsb-4 : Type 0
+After-fsb-4 = lts.After-fsb4 tie.the-claims reads.Pre reads.Post
+
+-- the place behind a call, with what was known there
+abbrev After-fsb-5 : Type 0
+After-fsb-5 = lts.After-fsb5 tie.the-claims reads.Pre reads.Post
+
+-- the place behind a call, with what was known there
+abbrev After-fsb-6 : Type 0
+After-fsb-6 = lts.After-fsb6 tie.the-claims reads.Pre reads.Post
+
+-- the place behind a call, with what was known there
+abbrev After-fsb-7 : Type 0
+After-fsb-7 = lts.After-fsb7 tie.the-claims reads.Pre reads.Post
+
+-- the place behind a call, with what was known there
+abbrev After-fsb-8 : Type 0
+After-fsb-8 = lts.After-fsb8 tie.the-claims reads.Pre reads.Post
+
+-- the place behind a call, with what was known there
+abbrev After-fsb-9 : Type 0
+After-fsb-9 = lts.After-fsb9 tie.the-claims reads.Pre reads.Post
+
+-- the place behind a call, with what was known there
+abbrev After-fsb : Type 0
+After-fsb = lts.After-fsb tie.the-claims reads.Pre reads.Post
 
 abbrev steps : List Step2
 steps =

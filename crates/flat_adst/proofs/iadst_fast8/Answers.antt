@@ -15,8 +15,35 @@ use Rattle.adst.specs.Adst.{adst_in, adst_out, on_t, adst8_steps, adst_steps, ad
 use Rattle.adst.specs.Inner.{arrays}
 use Rattle.flat.proofs.Straight.{Done, begin, call, next, end}
 use Rattle.flat.proofs.Arrays.{next_T}
+use Rattle.flat_adst.proofs.iadst_fast8.Lts as lts
+use Rattle.flat_adst.proofs.iadst_fast8.Tie as tie
+use Rattle.flat_adst.proofs.iadst_fast8.Reads as reads
 use Rattle.flat_adst.proofs.iadst_fast8.Goals as goal
-use Rattle.flat_adst.proofs.iadst_fast8.Goals.{After-fb, After-fb-2, After-fh, After-fh-2, After-fneg, After-fneg-2, After-fneg-3, After-fneg-4, After-fsb, After-fsb-2, After-fsb-3, After-fsb-4, After-fsb-5, After-fsb-6, After-fsh, After-fsh-2, After-fsh-3, After-fsh-4, After-fsh-5, After-fsh-6, After-input8, After-output8, Start}
+use Rattle.flat_adst.proofs.iadst_fast8.Goals.{After-fb, After-fb-2, After-fh, After-fh-2, After-fneg, After-fneg-2, After-fneg-3, After-fneg-4, After-fsh, After-fsh-2, After-fsh-3, After-fsh-4, After-fsh-5, After-fsh-6, After-input8, After-output8, Start}
+
+-- the place behind a call, with what was known there
+abbrev After-fsb-2 : Type 0
+After-fsb-2 = lts.After-fsb2 tie.the-claims reads.Pre reads.Post
+
+-- the place behind a call, with what was known there
+abbrev After-fsb-3 : Type 0
+After-fsb-3 = lts.After-fsb3 tie.the-claims reads.Pre reads.Post
+
+-- the place behind a call, with what was known there
+abbrev After-fsb-4 : Type 0
+After-fsb-4 = lts.After-fsb4 tie.the-claims reads.Pre reads.Post
+
+-- the place behind a call, with what was known there
+abbrev After-fsb-5 : Type 0
+After-fsb-5 = lts.After-fsb5 tie.the-claims reads.Pre reads.Post
+
+-- the place behind a call, with what was known there
+abbrev After-fsb-6 : Type 0
+After-fsb-6 = lts.After-fsb6 tie.the-claims reads.Pre reads.Post
+
+-- the place behind a call, with what was known there
+abbrev After-fsb : Type 0
+After-fsb = lts.After-fsb tie.the-claims reads.Pre reads.Post
 
 abbrev steps : List Step2
 steps =

@@ -14,7 +14,7 @@ use Rattle.whole.proofs.Lists.{fill_none, fill_more, fill_done, fill_rest}
 use Rattle.fwd_dct.proofs.round_all.Given as goal
 
 abbrev pub invariant-loop-k : goal.invariant-loop-k
-invariant-loop-k l = (l.k ≤ l.count) × (l.block ≡ fill l.k (λ k. Round2 (get_or l.initial.block k (pos 0)) «shift») l.initial.block) × (length l.block ≡ length l.initial.block)
+invariant-loop-k l = (l.k ≤ l.count) × (l.block ≡ fill l.k (λ k. Round2 (get_or l.initial.block k (pos 0)) l.shift) l.initial.block) × (length l.block ≡ length l.initial.block)
 
 abbrev pub decreases-loop-k : goal.decreases-loop-k
 decreases-loop-k l = l.count - l.k

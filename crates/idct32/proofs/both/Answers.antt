@@ -15,8 +15,15 @@ use Rattle.weights.specs.Inner.{Keeps}
 use Rattle.weights.proofs.Blocks.{AllKept, few_kept}
 use Rattle.idct32.proofs.Work.{area_most}
 use Rattle.idct32.proofs.Front.{front, front_past, front_row, front_column, front_both}
+use Rattle.idct32.proofs.both.Lts as lts
+use Rattle.idct32.proofs.both.Tie as tie
+use Rattle.idct32.proofs.both.Reads as reads
 use Rattle.idct32.proofs.both.Goals as goal
-use Rattle.idct32.proofs.both.Goals.{After-rows, After-side-strips, Start}
+use Rattle.idct32.proofs.both.Goals.{After-side-strips, Start}
+
+-- the place behind a call, with what was known there
+abbrev After-rows : Type 0
+After-rows = lts.After-rows tie.the-claims reads.Pre reads.Post
 
 -- every line stays within 16 bits
 kept : (s : Start) → AllKept (row_pass s.args.tx_type false) (column_pass s.args.tx_type false) s.args.n s.args.work.now

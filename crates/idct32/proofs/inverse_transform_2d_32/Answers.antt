@@ -25,8 +25,15 @@ use Rattle.idct.proofs.Answers as D
 use Rattle.idct32.proofs.Answers.{refused, clear, narrow, Entered, entered, leaves, stays}
 use Rattle.idct32.proofs.Work.{not_entered}
 use Rattle.idct32.proofs.Flat.{total_same, flat_done}
+use Rattle.idct32.proofs.inverse_transform_2d_32.Lts as lts
+use Rattle.idct32.proofs.inverse_transform_2d_32.Tie as tie
+use Rattle.idct32.proofs.inverse_transform_2d_32.Reads as reads
 use Rattle.idct32.proofs.inverse_transform_2d_32.Goals as goal
-use Rattle.idct32.proofs.inverse_transform_2d_32.Goals.{After-any_beyond, After-take, After-total-sum, Else-code-ne0, Else-not-take, Start, Then-not-take}
+use Rattle.idct32.proofs.inverse_transform_2d_32.Goals.{After-any_beyond, After-total-sum, Else-code-ne0, Else-not-take, Start, Then-not-take}
+
+-- the place behind a call, with what was known there
+abbrev After-take : Type 0
+After-take = lts.After-take tie.the-claims reads.Pre reads.Post
 
 -- what the call is given
 abbrev given : Start → Input

@@ -30,14 +30,12 @@ module _ (c : Then-sum-le31883) where
 
 pub both-requires : goal.both-requires
 both-requires c =
-    let s = start c.before in
-    (subst (λ (b : Bool). Possible s.args.n s.args.tx_type b) (lossy c.before) s.pre.0, c.if-n-ge3.true, s.pre.1, small c.before)
+    (subst (λ (b : Bool). Possible c.args.n c.args.tx_type b) (lossy c.before) c.requires.0, c.if-n-ge3.true, c.requires.1, small c.before)
 
 pub returns-then-sum-le31883 : goal.returns-then-sum-le31883
 returns-then-sum-le31883 c =
-    let s = start c.before.before in
-    let p = s.pre.0 in (
-      sym (small_within16 s.args.n s.args.tx_type s.args.lossless s.args.work.now p (rw s.pre.1 (area_most s.args.n p.least p.most)) (small c.before.before)),
+    let p = c.requires.0 in (
+      sym (small_within16 c.args.n c.args.tx_type c.args.lossless c.args.work.now p (rw c.requires.1 (area_most c.args.n p.least p.most)) (small c.before.before)),
       λ _. rw (lossy c.before.before) c.both.ensures,
     )
 

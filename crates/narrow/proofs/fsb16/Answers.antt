@@ -7,18 +7,22 @@ use borrow.Author.Rules.{rules}
 use Rattle.whole.proofs.Signed.{rd, rd_ok}
 use Rattle.primitives.specs.Rotations.{set_pair}
 use Rattle.narrow.specs.Inner.{spin_x, spin_y}
+use Rattle.narrow.proofs.fsb16.Lts as lts
+use Rattle.narrow.proofs.fsb16.Tie as tie
+use Rattle.narrow.proofs.fsb16.Reads as reads
 use Rattle.narrow.proofs.fsb16.Goals as goal
-use Rattle.narrow.proofs.fsb16.Goals.{After-struct_told-1}
 
-x_is : (c : After-struct_told-1) → let s = start c.before in rd w32 c.turn-r.result.x ≡ spin_x s.args.t.now s.args.a s.args.b s.args.cos s.args.sin
+-- the place behind a call, with what was known there
+abbrev After-struct_told-1 : Type 0
+After-struct_told-1 = lts.After-struct_told tie.the-claims reads.Pre reads.Post
+
+x_is : (c : After-struct_told-1) → rd w32 c.turn-r.result.x ≡ spin_x c.args.t.now c.args.a c.args.b c.args.cos c.args.sin
 x_is c =
-    let s = start c.before in
-    rd_ok w32 c.struct_told-1.given.0.1 ∙ (rw (to_z-of_z s.fits.cos, to_z-of_z s.fits.sin) at c.turn-r.ensures.x_is)
+    rd_ok w32 c.struct_told-1.given.0.1 ∙ (rw (to_z-of_z c.ranges.cos, to_z-of_z c.ranges.sin) at c.turn-r.ensures.x_is)
 
-y_is : (c : After-struct_told-1) → let s = start c.before in rd w32 c.turn-r.result.y ≡ spin_y s.args.t.now s.args.a s.args.b s.args.cos s.args.sin
+y_is : (c : After-struct_told-1) → rd w32 c.turn-r.result.y ≡ spin_y c.args.t.now c.args.a c.args.b c.args.cos c.args.sin
 y_is c =
-    let s = start c.before in
-    rd_ok w32 c.struct_told-1.given.1.0.1 ∙ (rw (to_z-of_z s.fits.cos, to_z-of_z s.fits.sin) at c.turn-r.ensures.y_is)
+    rd_ok w32 c.struct_told-1.given.1.0.1 ∙ (rw (to_z-of_z c.ranges.cos, to_z-of_z c.ranges.sin) at c.turn-r.ensures.y_is)
 
 pub returns-then-flip : goal.returns-then-flip
 unfolding set_pair

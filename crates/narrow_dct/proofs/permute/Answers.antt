@@ -35,9 +35,7 @@ pub loop-a-init : goal.loop-a-init
 loop-a-init c = (
   omega arith,
   exchanges_none (Brev c.args.n) c.args.t.now ∙ ap (λ (m : ℕ). exchanges (Brev c.args.n) m c.args.t.now) (sym (NatL.mul-zero c.args.k)),
-
-pub loop-a-init : goal.loop-a-init
-loop-a-init c =
+)
 
 pub loop-b-init : goal.loop-b-init
 loop-b-init c =
@@ -98,12 +96,11 @@ loop-b-preserved c =
     )
 
 pub loop-a-preserved : goal.loop-a-preserved
-loop-a-preserved c =
-    (
-      omega arith,
-      c.loop-b.invariant.1 c.args.t.now c.loop-a.invariant.1
-          ∙ ap (λ (m : ℕ). exchanges (Brev c.args.n) m c.args.t.now) (group c.args.k c.loop-a.a c.loop-b.b (omega arith) (omega arith)),
-    )
+loop-a-preserved c = (
+  omega arith,
+  c.loop-b.invariant.1 c.args.t.now c.loop-a.invariant.1
+      ∙ ap (λ (m : ℕ). exchanges (Brev c.args.n) m c.args.t.now) (group c.args.k c.loop-a.a c.loop-b.b (omega arith) (omega arith)),
+)
 
 pub returns : goal.returns
 returns c =

@@ -15,8 +15,38 @@ use Rattle.narrow_adst.specs.Inner.{last16, pieces16}
 use Rattle.narrow_adst.proofs.Rows.{Called, cut16, adst_begin, adst_end, call_T, next_T}
 use Rattle.narrow_lines.specs.Inner.{Holds, strip}
 use Rattle.narrow_lines.proofs.Strips.{strip_none, strip_done, strip_fine, strip_next}
+use Rattle.narrow_lines.proofs.adst16_rows.Lts as lts
+use Rattle.narrow_lines.proofs.adst16_rows.Tie as tie
+use Rattle.narrow_lines.proofs.adst16_rows.Reads as reads
 use Rattle.narrow_lines.proofs.adst16_rows.Goals as goal
-use Rattle.narrow_lines.proofs.adst16_rows.Goals.{After-adst16_first, After-adst16_last, After-adst16_more, After-adst16_next, After-adst16_turns, After-load, After-permute}
+
+-- the place behind a call, with what was known there
+abbrev After-adst16_first : Type 0
+After-adst16_first = lts.After-adst16_first tie.the-claims reads.Pre reads.Post goal.the-invariant-loop-j goal.the-decreases-loop-j
+
+-- the place behind a call, with what was known there
+abbrev After-adst16_last : Type 0
+After-adst16_last = lts.After-adst16_last tie.the-claims reads.Pre reads.Post goal.the-invariant-loop-j goal.the-decreases-loop-j
+
+-- the place behind a call, with what was known there
+abbrev After-adst16_more : Type 0
+After-adst16_more = lts.After-adst16_more tie.the-claims reads.Pre reads.Post goal.the-invariant-loop-j goal.the-decreases-loop-j
+
+-- the place behind a call, with what was known there
+abbrev After-adst16_next : Type 0
+After-adst16_next = lts.After-adst16_next tie.the-claims reads.Pre reads.Post goal.the-invariant-loop-j goal.the-decreases-loop-j
+
+-- the place behind a call, with what was known there
+abbrev After-adst16_turns : Type 0
+After-adst16_turns = lts.After-adst16_turns tie.the-claims reads.Pre reads.Post goal.the-invariant-loop-j goal.the-decreases-loop-j
+
+-- the place behind a call, with what was known there
+abbrev After-load : Type 0
+After-load = lts.After-load tie.the-claims reads.Pre reads.Post goal.the-invariant-loop-j goal.the-decreases-loop-j
+
+-- the place behind a call, with what was known there
+abbrev After-permute : Type 0
+After-permute = lts.After-permute tie.the-claims reads.Pre reads.Post goal.the-invariant-loop-j goal.the-decreases-loop-j
 
 -- after k pieces
 abbrev At : ℕ → Type 0

@@ -15,8 +15,30 @@ use Rattle.narrow_adst.specs.Inner.{last8, pieces8}
 use Rattle.narrow_adst.proofs.Rows.{Called, cut8, adst_begin, adst_end, call_T, next_T}
 use Rattle.narrow_lines.specs.Inner.{Holds, strip}
 use Rattle.narrow_lines.proofs.Strips.{strip_none, strip_done, strip_fine, strip_next}
+use Rattle.narrow_lines.proofs.adst8_columns.Lts as lts
+use Rattle.narrow_lines.proofs.adst8_columns.Tie as tie
+use Rattle.narrow_lines.proofs.adst8_columns.Reads as reads
 use Rattle.narrow_lines.proofs.adst8_columns.Goals as goal
-use Rattle.narrow_lines.proofs.adst8_columns.Goals.{After-adst8_first, After-adst8_last, After-adst8_next, After-load, After-permute}
+
+-- the place behind a call, with what was known there
+abbrev After-adst8_first : Type 0
+After-adst8_first = lts.After-adst8_first tie.the-claims reads.Pre reads.Post goal.the-invariant-loop-j goal.the-decreases-loop-j
+
+-- the place behind a call, with what was known there
+abbrev After-adst8_last : Type 0
+After-adst8_last = lts.After-adst8_last tie.the-claims reads.Pre reads.Post goal.the-invariant-loop-j goal.the-decreases-loop-j
+
+-- the place behind a call, with what was known there
+abbrev After-adst8_next : Type 0
+After-adst8_next = lts.After-adst8_next tie.the-claims reads.Pre reads.Post goal.the-invariant-loop-j goal.the-decreases-loop-j
+
+-- the place behind a call, with what was known there
+abbrev After-load : Type 0
+After-load = lts.After-load tie.the-claims reads.Pre reads.Post goal.the-invariant-loop-j goal.the-decreases-loop-j
+
+-- the place behind a call, with what was known there
+abbrev After-permute : Type 0
+After-permute = lts.After-permute tie.the-claims reads.Pre reads.Post goal.the-invariant-loop-j goal.the-decreases-loop-j
 
 -- after k pieces
 abbrev At : ℕ → Type 0

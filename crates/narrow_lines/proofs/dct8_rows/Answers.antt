@@ -14,8 +14,26 @@ use Rattle.narrow_dct.specs.Inner.{pieces8}
 use Rattle.narrow_dct.proofs.Rows.{Called, cut8, dct_begin, dct_end}
 use Rattle.narrow_lines.specs.Inner.{Holds, strip}
 use Rattle.narrow_lines.proofs.Strips.{strip_none, strip_done, strip_fine, strip_next}
+use Rattle.narrow_lines.proofs.dct8_rows.Lts as lts
+use Rattle.narrow_lines.proofs.dct8_rows.Tie as tie
+use Rattle.narrow_lines.proofs.dct8_rows.Reads as reads
 use Rattle.narrow_lines.proofs.dct8_rows.Goals as goal
-use Rattle.narrow_lines.proofs.dct8_rows.Goals.{After-level2, After-level3, After-load, After-permute}
+
+-- the place behind a call, with what was known there
+abbrev After-level2 : Type 0
+After-level2 = lts.After-level2 tie.the-claims reads.Pre reads.Post goal.the-invariant-loop-j goal.the-decreases-loop-j
+
+-- the place behind a call, with what was known there
+abbrev After-level3 : Type 0
+After-level3 = lts.After-level3 tie.the-claims reads.Pre reads.Post goal.the-invariant-loop-j goal.the-decreases-loop-j
+
+-- the place behind a call, with what was known there
+abbrev After-load : Type 0
+After-load = lts.After-load tie.the-claims reads.Pre reads.Post goal.the-invariant-loop-j goal.the-decreases-loop-j
+
+-- the place behind a call, with what was known there
+abbrev After-permute : Type 0
+After-permute = lts.After-permute tie.the-claims reads.Pre reads.Post goal.the-invariant-loop-j goal.the-decreases-loop-j
 
 -- after k pieces
 abbrev At : ℕ → Type 0

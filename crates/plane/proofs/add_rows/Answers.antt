@@ -46,7 +46,7 @@ pub loop-i-preserved : goal.loop-i-preserved
 loop-i-preserved c =
     let a = c.args in
     let l = c.loop-i in (
-      (omega arith, c.add_row.auto.0 ∙ l.invariant.0.1),
+      (omega arith, c.add_row.auto.samples ∙ l.invariant.0.1),
       block_more a.top (λ i j. get_or a.residual.now (i * a.step + j) (pos 0)) a.x a.y a.samples.now a.plane a.cols l.i
           (omega (arith, c.requires.samples_of.0.wide, c.requires.samples_of.1, c.requires.samples_of.3)) l.samples c.add_row.new.samples l.invariant.1
           (rw c.place.ensures at c.add_row.ensures),

@@ -27,12 +27,12 @@ read c = record { sfits = c.r-1.given }
 
 pub overflow_cast-r : goal.overflow_cast-r
 overflow_cast-r c =
-    let f = read c.before in
+    let f = read c.before.before in
     rw (to_z-of_z w16 _ f) (within_sfits {m = 32768} (lit< tt) (short_within _ f))
 
 pub clip-requires : goal.clip-requires
 clip-requires c =
-    let f = read c.before in
+    let f = read c.before.before in
     rw (to_z-of_z w16 _ f, back w64 (lit< tt) (short_within _ f)) (within_le (lit≤ tt) (short_within _ f))
 
 pub loop-j-preserved : goal.loop-j-preserved

@@ -24,7 +24,7 @@ loop-q-preserved c =
     let q = c.loop-q.q in
     let e : 8 * (q + 1) ≡ 8 * q + 8 = omega arith in (
       omega arith,
-      c.add_eight.auto.0 ∙ c.loop-q.invariant.1,
+      c.add_eight.auto.samples ∙ c.loop-q.invariant.1,
       λ k. rw e
           (row_join a.top (λ j. get_or a.z.now (place a.n0 a.i j) (pos 0)) (λ j. get_or a.z.now (8 * a.n0 * q + 8 * a.i + j) (pos 0)) a.at (8 * q) 8
           (λ j h. ap (λ p. get_or a.z.now p (pos 0)) (place_strip a.n0 a.i q j h)) a.samples.now c.loop-q.samples c.add_eight.new.samples c.loop-q.invariant.2 c.add_eight.ensures k),

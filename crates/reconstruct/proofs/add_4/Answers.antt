@@ -7,8 +7,18 @@ use Rattle.blocks.specs.Inverse.{inverse2d}
 use Rattle.blocks.proofs.Inverse.{inverse2d_length}
 use Rattle.reconstruct.specs.Reconstruct.{added}
 use Rattle.reconstruct.proofs.Residual.{in_front, in_front_lem, block_length, block_within, residual_within, residual_at}
+use Rattle.reconstruct.proofs.add_4.Lts as lts
+use Rattle.reconstruct.proofs.add_4.Tie as tie
+use Rattle.reconstruct.proofs.add_4.Reads as reads
 use Rattle.reconstruct.proofs.add_4.Goals as goal
-use Rattle.reconstruct.proofs.add_4.Goals.{After-dequantize, After-passes_4}
+
+-- the place behind a call, with what was known there
+abbrev After-dequantize : Type 0
+After-dequantize = lts.After-dequantize tie.the-claims reads.Pre reads.Post
+
+-- the place behind a call, with what was known there
+abbrev After-passes_4 : Type 0
+After-passes_4 = lts.After-passes_4 tie.the-claims reads.Pre reads.Post
 
 -- the block after dequantizing
 coefs : (c : After-dequantize) → let a = c.args in c.dequantize.new.block ≡ in_front 16 0 a.dc_quant a.ac_quant a.tokens.now

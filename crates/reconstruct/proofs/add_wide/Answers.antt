@@ -14,8 +14,15 @@ use Rattle.answers.specs.Sizes.{side, area}
 use Rattle.reconstruct.specs.Reconstruct.{added}
 use Rattle.tokens.proofs.Sizes.{area_most, side_most, in_block}
 use Rattle.reconstruct.proofs.Residual.{size_most, in_front, in_front_lem, block_length, block_room, block_within, residual_within, residual_at}
+use Rattle.reconstruct.proofs.add_wide.Lts as lts
+use Rattle.reconstruct.proofs.add_wide.Tie as tie
+use Rattle.reconstruct.proofs.add_wide.Reads as reads
 use Rattle.reconstruct.proofs.add_wide.Goals as goal
-use Rattle.reconstruct.proofs.add_wide.Goals.{After-both_passes, After-dequantize}
+use Rattle.reconstruct.proofs.add_wide.Goals.{After-both_passes}
+
+-- the place behind a call, with what was known there
+abbrev After-dequantize : Type 0
+After-dequantize = lts.After-dequantize tie.the-claims reads.Pre reads.Post
 
 -- the block after dequantizing
 coefs : (c : After-dequantize) → let a = c.args in

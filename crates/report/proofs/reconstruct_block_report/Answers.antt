@@ -81,10 +81,10 @@ count_tokens-requires c =
 pub returns : goal.returns
 returns c =
     let a = c.args in
-    let u = input c.before.before.before.before.before.before.before.before.before.before.before.before in
+    let u = input c.before.before.before.before.before.before.before.before.before.before.before.before.before in
     let r = c.reconstruct_block-answer.ensures in
-    let e = passes u (passed c.before.before.before.before.before.before.before.before.before) in
-    let z = sym e ∙ done c.before.before.before in
+    let e = passes u (passed c.before.before.before.before.before.before.before.before.before.before) in
+    let z = sym e ∙ done c.before.before.before.before in
     record {
       answered = r.answered ∙ e;
       written = r.written ∙ same_samples u e;

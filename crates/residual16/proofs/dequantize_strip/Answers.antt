@@ -13,7 +13,6 @@ use Rattle.residual16.proofs.dequantize_strip.Goals.{In-loop-i}
 
 -- a turn: row i of the strip
 module _ (c : In-loop-i) where
-
   row_in : c.loop-i.i < c.side-n0.result
   row_in = omega (arith, c.side-n0.ensures.0, c.requires.le_size.5)
 
@@ -37,9 +36,7 @@ eight-o-requires c = (
   omega arith,
   c.requires.ac_quant_value.0,
   λ j h l. c.requires.ac_quant_value.1 _ (not_first c.side-n0.result c.loop-i.i c.args.q j (some c) (omega (arith, c.requires.le_size.6, c.loop-i.invariant.0))) (omega (arith, from_in c)),
-
-pub eight-o-requires : goal.eight-o-requires
-eight-o-requires c =
+)
 
 pub loop-i-preserved : goal.loop-i-preserved
 loop-i-preserved c =

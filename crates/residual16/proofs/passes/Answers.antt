@@ -33,9 +33,8 @@ module _ (c : After-rows) where
   after_rows = rw c.row_dct.ensures at c.rows.ensures.1
 
 module _ (c : After-columns) where
-  after_columns : let s = s1 c.before.before.before in
-      raster (side s.args.n) c.columns.new.z
-      ≡ columns (apply (column_pass s.args.tx_type false) s.args.n) (λ z. z) (side s.args.n) (rows (apply (row_pass s.args.tx_type false) s.args.n) (side s.args.n) (block s))
+  after_columns : raster (side c.args.n) c.columns.new.z
+      ≡ columns (apply (column_pass c.args.tx_type false) c.args.n) (λ z. z) (side c.args.n) (rows (apply (row_pass c.args.tx_type false) c.args.n) (side c.args.n) (block c.before.before.before.before.before.before))
   after_columns = rw (c.column_dct.ensures, after_rows c.before.before.before) at c.columns.ensures.1
 
 pub rows-requires : goal.rows-requires
@@ -46,18 +45,16 @@ rows-requires c =
 
 pub columns-requires : goal.columns-requires
 columns-requires c =
-    let s = s1 c.before.before in
-    let p = s.pre.1 in
+    let p = c.requires.1 in
     rw (c.column_dct.ensures, after_rows c.before.before)
-    (s.pre.0, p.most, adst_side 0 0 s.args.n false _ (column_valid s.args.n s.args.tx_type false p) refl, c.rows.ensures.0, (kept s).of_column)
+    (c.requires.0, p.most, adst_side 0 0 c.args.n false _ (column_valid c.args.n c.args.tx_type false p) refl, c.rows.ensures.0, (kept c.before.before.before.before.before).of_column)
 
 pub returns : goal.returns
 unfolding rounding
 returns c =
-    let s = s1 c.before.before.before.before.before in
-    ap (raster (side s.args.n)) c.round.ensures
-    ∙ rounded_tiles s.args.n (side s.args.n / 8) s.args.tx_type (block s) c.columns.new.z (eights s.args.n s.pre.0 s.pre.1.most) (room s)
-    (rw c.columns.ensures.0 (area_most_n s.args.n s.pre.1.least s.pre.1.most)) (after_columns c.before.before)
+    ap (raster (side c.args.n)) c.round.ensures
+    ∙ rounded_tiles c.args.n (side c.args.n / 8) c.args.tx_type (block c.before.before.before.before.before.before.before.before) c.columns.new.z (eights c.args.n c.requires.0 c.requires.1.most) (room c.before.before.before.before.before.before.before.before)
+    (rw c.columns.ensures.0 (area_most_n c.args.n c.requires.1.least c.requires.1.most)) (after_columns c.before.before)
 
 pub round-requires : goal.round-requires
-round-requires c = let s = s1 c.before.before.before.before in (s.pre.0, s.pre.1.most, c.columns.ensures.0)
+round-requires c = (c.requires.0, c.requires.1.most, c.columns.ensures.0)

@@ -40,9 +40,8 @@ module _ (c : After-magnitude-first) where
 
 pub enough-requires : goal.enough-requires
 enough-requires c =
-    let s = s3 c in
-    let a = s.args in
-    ((lent s).dc_ok, (lent s).ac_ok, λ h. rw (first_is c) (bounded a.size a.dc_quant a.ac_quant a.tx_type a.tokens.now (lent s) (all c) (added c) (strips c) (scanned c) h))
+    let a = c.args in
+    ((lent c.before.before.before).dc_ok, (lent c.before.before.before).ac_ok, λ h. rw (first_is c) (bounded a.size a.dc_quant a.ac_quant a.tx_type a.tokens.now (lent c.before.before.before) (all c) (added c) (strips c) (scanned c) h))
 
 -- 16 bits are enough
 module _ (e : Else-not-enough) where
@@ -59,56 +58,50 @@ module _ (e : Else-not-enough) where
 
 pub dequant16-requires : goal.dequant16-requires
 dequant16-requires c =
-    let s = s5 c.before.before.before.before in
-    rw (to_z-of_z w64 (get_or s.args.tokens.now 0 (pos 0)) (record { sfits = c.dequant16-arg-1.given })) ((lent s).dc_ok, (dc_short c.before.before.before.before).0, (dc_short c.before.before.before.before).1)
+    rw (to_z-of_z w64 (get_or c.args.tokens.now 0 (pos 0)) (record { sfits = c.dequant16-arg-1.given })) ((lent c.before.before.before.before.before.before.before.before.before).dc_ok, (dc_short c.before.before.before.before).0, (dc_short c.before.before.before.before).1)
 
 pub returns-then-tx_type-eq0 : goal.returns-then-tx_type-eq0
 returns-then-tx_type-eq0 c =
-    let s = s5 c.before.before.before.before.before.before.before in
-    let a = s.args in
+    let a = c.args in
     let t = to_z-of_z w64 (get_or a.tokens.now 0 (pos 0)) (record { sfits = c.dequant16-arg-1.given }) in
     let v : rd w16 c.dequant16.result ≡ dequant a.size a.dc_quant.0 (get_or a.tokens.now 0 (pos 0)) = rd_ok w16 {z = c.dequant16.result} c.dequant16.type_inv ∙ rw t at c.dequant16.ensures in
-    λ h. served_flat a.size a.dc_quant a.ac_quant a.tx_type a.tokens.now (lent s) (all c.before.before.before.before.before.before.before.before.before) (added c.before.before.before.before.before.before.before.before.before) (strips c.before.before.before.before.before.before.before.before.before) (scanned c.before.before.before.before.before.before.before.before.before) (told c.before.before.before.before.before.before.before).0 (told c.before.before.before.before.before.before.before).1
+    λ h. served_flat a.size a.dc_quant a.ac_quant a.tx_type a.tokens.now (lent c.before.before.before.before.before.before.before.before.before.before.before.before) (all c.before.before.before.before.before.before.before.before.before) (added c.before.before.before.before.before.before.before.before.before) (strips c.before.before.before.before.before.before.before.before.before) (scanned c.before.before.before.before.before.before.before.before.before) (told c.before.before.before.before.before.before.before).0 (told c.before.before.before.before.before.before.before).1
     (c.if-w-first.true ∙ first_is c.before.before.before.before.before.before.before.before.before) c.if-tx_type-eq0.true
-    a.z.now (set a.z.now 0 (rd w16 c.dequant16.result)) c.residual_dc.new.z s.pre.0 (ap (set a.z.now 0) v) c.residual_dc.ensures
+    a.z.now (set a.z.now 0 (rd w16 c.dequant16.result)) c.residual_dc.new.z c.requires.0 (ap (set a.z.now 0) v) c.residual_dc.ensures
 
 pub dequantize-requires : goal.dequantize-requires
 dequantize-requires c =
-    let s = s5 c.before.before.before.before in
     let w = scanned c.before.before.before.before.before.before in
-    ((s.pre.0, (lent s).larger, omega (arith, (lent s).possible.most), (lent s).all, omega (arith, w.least), w.most, w.dead), ((lent s).dc_ok, (lent s).ac_ok, shorts c.before.before.before.before))
+    ((c.requires.0, (lent c.before.before.before.before.before.before.before.before.before).larger, omega (arith, (lent c.before.before.before.before.before.before.before.before.before).possible.most), (lent c.before.before.before.before.before.before.before.before.before).all, omega (arith, w.least), w.most, w.dead), ((lent c.before.before.before.before.before.before.before.before.before).dc_ok, (lent c.before.before.before.before.before.before.before.before.before).ac_ok, shorts c.before.before.before.before))
 
 pub passes-requires : goal.passes-requires
 passes-requires c =
-    let s = s5 c.before.before.before.before.before.before in
-    let a = s.args in
+    let a = c.args in
     let w = scanned c.before.before.before.before.before.before.before.before in
     let d = c.dequantize.ensures in
     rw d.1 (
-      omega (arith, (lent s).larger),
-      (lent s).possible,
+      omega (arith, (lent c.before.before.before.before.before.before.before.before.before.before.before).larger),
+      (lent c.before.before.before.before.before.before.before.before.before.before.before).possible,
       d.0,
-      few_coefs a.size a.dc_quant a.ac_quant a.tx_type a.tokens.now (lent s) (all c.before.before.before.before.before.before.before.before) (added c.before.before.before.before.before.before.before.before) (strips c.before.before.before.before.before.before.before.before) w (told c.before.before.before.before.before.before).0 (told c.before.before.before.before.before.before).1,
+      few_coefs a.size a.dc_quant a.ac_quant a.tx_type a.tokens.now (lent c.before.before.before.before.before.before.before.before.before.before.before) (all c.before.before.before.before.before.before.before.before) (added c.before.before.before.before.before.before.before.before) (strips c.before.before.before.before.before.before.before.before) w (told c.before.before.before.before.before.before).0 (told c.before.before.before.before.before.before).1,
       w.most,
-      dead_all a.size a.dc_quant a.ac_quant a.tx_type a.tokens.now (lent s) _ w.dead,
+      dead_all a.size a.dc_quant a.ac_quant a.tx_type a.tokens.now (lent c.before.before.before.before.before.before.before.before.before.before.before) _ w.dead,
     )
 
 pub returns : goal.returns
 returns c =
-    let s = s5 c.before.before.before.before.before.before.before in
-    let a = s.args in
-    λ h. served a.size a.dc_quant a.ac_quant a.tx_type a.tokens.now (lent s) (all c.before.before.before.before.before.before.before.before.before) (added c.before.before.before.before.before.before.before.before.before) (strips c.before.before.before.before.before.before.before.before.before) (scanned c.before.before.before.before.before.before.before.before.before) (told c.before.before.before.before.before.before.before).0 (told c.before.before.before.before.before.before.before).1
+    let a = c.args in
+    λ h. served a.size a.dc_quant a.ac_quant a.tx_type a.tokens.now (lent c.before.before.before.before.before.before.before.before.before.before.before.before) (all c.before.before.before.before.before.before.before.before.before) (added c.before.before.before.before.before.before.before.before.before) (strips c.before.before.before.before.before.before.before.before.before) (scanned c.before.before.before.before.before.before.before.before.before) (told c.before.before.before.before.before.before.before).0 (told c.before.before.before.before.before.before.before).1
     c.dequantize.new.z c.passes.new.z c.dequantize.ensures.1 c.passes.ensures
 
 pub bounds-tokens-0 : goal.bounds-tokens-0
 bounds-tokens-0 c = first_in c.before
 
 pub returns-then-not-enough : goal.returns-then-not-enough
-returns-then-not-enough c = never h
+returns-then-not-enough c h = never h
 
 pub bounds-tokens-0-then-tx_type-eq0 : goal.bounds-tokens-0-then-tx_type-eq0
 bounds-tokens-0-then-tx_type-eq0 c = first_in c.before.before.before.before.before.before.before.before
 
 pub overflow_mul-w : goal.overflow_mul-w
-overflow_mul-w c = let s = s5 c.before.before.before.before in
-    record { fits = omega (arith, (scanned c.before.before.before.before.before.before).most, side_most (s.args.size + 2) (lent s).possible.least (lent s).possible.most) }
+overflow_mul-w c = record { fits = omega (arith, (scanned c.before.before.before.before.before.before).most, side_most (c.args.size + 2) (lent c.before.before.before.before.before.before.before.before.before).possible.least (lent c.before.before.before.before.before.before.before.before.before).possible.most) }

@@ -111,18 +111,16 @@ module _ (q : After-round14-y3) where
 pub returns-then-not-put : goal.returns-then-not-put
 unfolding fits step adst4
 returns-then-not-put c =
-    let v = w c.before.before.before in
-    four_stops (start v).args.t.now (start v).pre (of c.before.before.before adst0) (of c.before.before.before adst1) (of c.before.before.before adst2) (of c.before.before.before adst3) (rw (e0 c.before.before.before ∙ same c.before.before.before adst0, e1 c.before.before.before ∙ same c.before.before.before adst1) at c.put.ensures.0) c.if-not-put.true
+    four_stops c.args.t.now c.requires (of c.before.before.before adst0) (of c.before.before.before adst1) (of c.before.before.before adst2) (of c.before.before.before adst3) (rw (e0 c.before.before.before ∙ same c.before.before.before adst0, e1 c.before.before.before ∙ same c.before.before.before adst1) at c.put.ensures.0) c.if-not-put.true
 
 pub returns : goal.returns
 unfolding fits step adst4
 returns c =
-    let v = w c.before.before.before.before.before in
     let f0 = e0 c.before.before.before.before.before ∙ same c.before.before.before.before.before adst0 in
     let f1 = e1 c.before.before.before.before.before ∙ same c.before.before.before.before.before adst1 in
     let f2 = e2 c.before.before.before.before.before ∙ same c.before.before.before.before.before adst2 in
     let f3 = e3 c.before.before.before.before.before ∙ same c.before.before.before.before.before adst3 in
-    four_told (start v).args.t.now (start v).pre (of c.before.before.before.before.before adst0) (of c.before.before.before.before.before adst1) (of c.before.before.before.before.before adst2) (of c.before.before.before.before.before adst3) (rw (f0, f1) at c.put.ensures.0) c.if-not-put.false
+    four_told c.args.t.now c.requires (of c.before.before.before.before.before adst0) (of c.before.before.before.before.before adst1) (of c.before.before.before.before.before adst2) (of c.before.before.before.before.before adst3) (rw (f0, f1) at c.put.ensures.0) c.if-not-put.false
     (rw (f0, f1) at (c.put.ensures.1 (not-false c.put.result c.if-not-put.false))) (rw (f2, f3) at c.put-2.ensures.0, λ k. rw (f2, f3) at (c.put-2.ensures.1 k))
 
 pub overflow_add-u : goal.overflow_add-u

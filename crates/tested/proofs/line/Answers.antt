@@ -55,14 +55,14 @@ apply-requires c =
 pub returns-then-not-apply : goal.returns-then-not-apply
 returns-then-not-apply c =
     let h = c.requires.1 in
-    going_stop (kind c.before.before.before.before.before.before) (n c.before.before.before.before.before.before) h (going c.before.before.before.before.before.before) (here c.before.before.before.before.before.before) (is c.before.before.before.before.before.before (kind c.before.before.before.before.before.before) h c.first-at.ensures (here c.before.before.before.before.before.before)).0 c.apply.ensures c.if-not-apply.true
+    going_stop (kind c.before.before.before.before.before.before.before) (n c.before.before.before.before.before.before.before) h (going c.before.before.before.before.before.before.before) (here c.before.before.before.before.before.before.before) (is c.before.before.before.before.before.before.before (kind c.before.before.before.before.before.before.before) h c.first-at.ensures (here c.before.before.before.before.before.before.before)).0 c.apply.ensures c.if-not-apply.true
 
 pub loop-i-preserved : goal.loop-i-preserved
 loop-i-preserved c = (
   omega arith,
   λ k h q z.
-      let m : i c.before.before.before.before.before.before < length (steps_of (pass_of k) (n c.before.before.before.before.before.before)) = omega (arith, z, c.loop-i-test.true) in
-      going_next k (n c.before.before.before.before.before.before) h (c.loop-i.invariant.1 k h q z) m (is c.before.before.before.before.before.before k h q m).0 c.apply.ensures c.if-not-apply.false,
+      let m : i c.before.before.before.before.before.before.before < length (steps_of (pass_of k) (n c.before.before.before.before.before.before.before)) = omega (arith, z, c.loop-i-test.true) in
+      going_next k (n c.before.before.before.before.before.before.before) h (c.loop-i.invariant.1 k h q z) m (is c.before.before.before.before.before.before.before k h q m).0 c.apply.ensures c.if-not-apply.false,
 )
 
 pub returns : goal.returns

@@ -49,18 +49,16 @@ module _ (c : After-wide-4) where
 pub returns-then-not-put : goal.returns-then-not-put
 unfolding fits step wht4
 returns-then-not-put c =
-    let s = start c.before.before.before in
-    four_stops s.args.t.now s.pre.1 (of c.before.before.before wht0) (of c.before.before.before wht1) (of c.before.before.before wht2) (of c.before.before.before wht3) (rw ((is_rd w32 (lit< tt) (four.a-is (k c.before.before.before) c.wide.ensures.1 c.wide-2.ensures.1 c.wide-3.ensures.1 c.wide-4.ensures.1)).eq ∙ same c.before.before.before wht0, (is_rd w32 (lit< tt) (four.b-is (k c.before.before.before) c.wide.ensures.1 c.wide-2.ensures.1 c.wide-3.ensures.1 c.wide-4.ensures.1)).eq ∙ same c.before.before.before wht1) at c.put.ensures.0) c.if-not-put.true
+    four_stops c.args.t.now c.requires.1 (of c.before.before.before wht0) (of c.before.before.before wht1) (of c.before.before.before wht2) (of c.before.before.before wht3) (rw ((is_rd w32 (lit< tt) (four.a-is (k c.before.before.before) c.wide.ensures.1 c.wide-2.ensures.1 c.wide-3.ensures.1 c.wide-4.ensures.1)).eq ∙ same c.before.before.before wht0, (is_rd w32 (lit< tt) (four.b-is (k c.before.before.before) c.wide.ensures.1 c.wide-2.ensures.1 c.wide-3.ensures.1 c.wide-4.ensures.1)).eq ∙ same c.before.before.before wht1) at c.put.ensures.0) c.if-not-put.true
 
 pub returns : goal.returns
 unfolding fits step wht4
 returns c =
-    let s = start c.before.before.before.before.before in
     let e0 = (is_rd w32 (lit< tt) (four.a-is (k c.before.before.before.before.before) c.wide.ensures.1 c.wide-2.ensures.1 c.wide-3.ensures.1 c.wide-4.ensures.1)).eq ∙ same c.before.before.before.before.before wht0 in
     let e1 = (is_rd w32 (lit< tt) (four.b-is (k c.before.before.before.before.before) c.wide.ensures.1 c.wide-2.ensures.1 c.wide-3.ensures.1 c.wide-4.ensures.1)).eq ∙ same c.before.before.before.before.before wht1 in
     let e2 = (is_rd w32 (lit< tt) (four.c-is (k c.before.before.before.before.before) c.wide.ensures.1 c.wide-2.ensures.1 c.wide-3.ensures.1 c.wide-4.ensures.1)).eq ∙ same c.before.before.before.before.before wht2 in
     let e3 = (is_rd w32 (lit< tt) (four.d-is (k c.before.before.before.before.before) c.wide.ensures.1 c.wide-2.ensures.1 c.wide-3.ensures.1 c.wide-4.ensures.1)).eq ∙ same c.before.before.before.before.before wht3 in
-    four_told s.args.t.now s.pre.1 (of c.before.before.before.before.before wht0) (of c.before.before.before.before.before wht1) (of c.before.before.before.before.before wht2) (of c.before.before.before.before.before wht3) (rw (e0, e1) at c.put.ensures.0) c.if-not-put.false
+    four_told c.args.t.now c.requires.1 (of c.before.before.before.before.before wht0) (of c.before.before.before.before.before wht1) (of c.before.before.before.before.before wht2) (of c.before.before.before.before.before wht3) (rw (e0, e1) at c.put.ensures.0) c.if-not-put.false
     (rw (e0, e1) at (c.put.ensures.1 (not-false c.put.result c.if-not-put.false))) (rw (e3, e2) at c.put-2.ensures.0, λ k. rw (e3, e2) at (c.put-2.ensures.1 k))
 
 pub overflow_add-a : goal.overflow_add-a

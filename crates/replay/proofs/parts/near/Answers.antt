@@ -9,13 +9,13 @@ use Rattle.replay.proofs.Tests.{never, tested}
 use Rattle.replay.proofs.parts.near.Goals as goal
 
 pub returns-then-count-k : goal.returns-then-count-k
-returns-then-count-k c = never h
+returns-then-count-k c h = never h
 
 pub returns-then-list-k : goal.returns-then-list-k
-returns-then-list-k c = never h
+returns-then-list-k c h = never h
 
 pub returns : goal.returns
-returns c =
+returns c h =
     let x = get_or c.args.list.now c.args.k (pos 0) in
     let e = to_z-of_z w64 x (record { sfits = c.x-1.given }) in
     (omega arith, tested c.magnitude.result c.args.most (c.magnitude.ensures ∙ ap nat_abs e) h)

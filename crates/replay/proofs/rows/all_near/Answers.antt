@@ -6,9 +6,9 @@ use Rattle.replay.proofs.Tests.{never}
 use Rattle.replay.proofs.rows.all_near.Goals as goal
 
 pub returns-then-list-count : goal.returns-then-list-count
-returns-then-list-count c = never h
+returns-then-list-count c h = never h
 
 pub returns : goal.returns
-returns c =
+returns c h =
     none_within c.args.most c.args.count c.args.list.now
     (sym c.any_beyond.ensures ∙ not-true c.any_beyond.result h)

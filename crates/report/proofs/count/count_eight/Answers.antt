@@ -59,13 +59,12 @@ overflow_add-counts-in-loop-i c =
 
 pub overflow_add-sums : goal.overflow_add-sums
 overflow_add-sums c =
-    let s = begun c.before.before.before.before in
     record {
       fits = omega (
         arith,
         seen c.before.before.before.before,
-        s.pre.2.codeables (s.args.start + i c.before.before.before.before) (omega (arith, s.pre.1)),
-        (more c.before.before.before.before).small (s.args.size * 11 + c.class_of.result) (place c.before.before.before.before),
+        c.requires.2.codeables (c.args.start + i c.before.before.before.before) (omega (arith, c.requires.1)),
+        (more c.before.before.before.before).small (c.args.size * 11 + c.class_of.result) (place c.before.before.before.before),
       );
     }
 
