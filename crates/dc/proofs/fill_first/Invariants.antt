@@ -11,7 +11,7 @@ use Rattle.whole.proofs.Lists.{fill_none, fill_more}
 use Rattle.dc.proofs.fill_first.Given as goal
 
 abbrev pub invariant-loop-i : goal.invariant-loop-i
-invariant-loop-i l = (l.i ≤ l.count) × (l.block ≡ fill l.i (λ k. to_z w64 l.v) l.initial.block) × (length l.block ≡ length l.initial.block)
+invariant-loop-i l = (l.i ≤ l.count) × (l.block ≡ fill l.i (λ k. l.v) l.initial.block) × (length l.block ≡ length l.initial.block)
 
 abbrev pub decreases-loop-i : goal.decreases-loop-i
 decreases-loop-i l = l.count - l.i

@@ -86,4 +86,4 @@ loop-i-preserved c =
 pub returns : goal.returns
 returns c =
     let l = c.loop-i in
-    (fill_done _ _ _ _ (search rules) (search rules) l.invariant.1, fill_done _ _ _ _ (search rules) (search rules) l.invariant.2)
+    record { added = fill_done _ _ _ _ (search rules) (search rules) l.invariant.1; taken = fill_done _ _ _ _ (search rules) (search rules) l.invariant.2 }

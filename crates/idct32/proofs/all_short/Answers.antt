@@ -15,7 +15,7 @@ use mir.Facts.{to_z-of_z}
 use Rattle.narrow.specs.Kept.{short, shorts}
 use Rattle.idct32.proofs.Scan.{shorts_none, shorts_next}
 use Rattle.idct32.proofs.all_short.Goals as goal
-use Rattle.idct32.proofs.all_short.Goals.{After-is_short}
+use Rattle.idct32.proofs.all_short.Goals.{After-is_short, else-not-is_short, then-not-is_short}
 
 -- one number more, whichever way its test went
 failed : (t : List ℤ) (k : ℕ) {r b : Bool} → r ≡ short (get_or t k (pos 0)) → not r ≡ true → b ≡ false → b ≡ shorts (k + 1) t
@@ -31,7 +31,7 @@ pub loop-k-preserved : goal.loop-k-preserved
 loop-k-preserved c =
     let t = c.args.block.now in (
       omega arith,
-      ⊎_elim (λ w. failed t c.loop-k.k (seen c.before) w.0.taken w.1) (λ w. passed t c.loop-k.k (seen c.before) w.0.left w.1 c.loop-k.invariant.1) c.if-not-is_short.branch,
+      elim c.if-not-is_short.branch [ then-not-is_short w ↦ failed t c.loop-k.k (seen c.before) w.if-not-is_short.true w.JOIN-is | else-not-is_short w ↦ passed t c.loop-k.k (seen c.before) w.if-not-is_short.false w.JOIN-is c.loop-k.invariant.1 ],
     )
 
 pub loop-k-init : goal.loop-k-init

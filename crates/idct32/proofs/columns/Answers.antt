@@ -17,4 +17,4 @@ pub returns : goal.returns
 returns c =
     let o = c.columns.ensures in
     let e = c.column_kind.ensures in
-    (rw e at (told_columns (pass_of c.column_kind.result) c.args.n c.args.work.now c.columns.result o), rw e at o.made)
+    record { is = rw e at (told_columns (pass_of c.column_kind.result) c.args.n c.args.work.now c.columns.result o); then = rw e at o.made }

@@ -34,10 +34,7 @@ both-requires c =
 
 pub returns-then-sum-le31883 : goal.returns-then-sum-le31883
 returns-then-sum-le31883 c =
-    let p = c.requires.0 in (
-      sym (small_within16 c.args.n c.args.tx_type c.args.lossless c.args.work.now p (rw c.requires.1 (area_most c.args.n p.least p.most)) (small c.before.before)),
-      λ _. rw (lossy c.before.before) c.both.ensures,
-    )
+    let p = c.requires.0 in record { is = sym (small_within16 c.args.n c.args.tx_type c.args.lossless c.args.work.now p (rw c.requires.1 (area_most c.args.n p.least p.most)) (small c.before.before)); then = λ _. rw (lossy c.before.before) c.both.ensures }
 
 -- the rows, where they pass
 made : (c : Else-not-rows) → (kept_rows (row_pass c.args.tx_type c.args.lossless) c.args.n c.args.work.now ≡ true)
@@ -53,10 +50,10 @@ columns-requires c =
 pub returns-then-not-rows : goal.returns-then-not-rows
 unfolding within16
 returns-then-not-rows c =
-    (sym (rw (sym c.rows.ensures.is ∙ not-true c.rows.result c.if-not-rows.true)), λ e. never e)
+    record { is = sym (rw (sym c.rows.ensures.is ∙ not-true c.rows.result c.if-not-rows.true)); then = λ e. never e }
 
 pub returns : goal.returns
 unfolding within16
 returns c =
     let m = made c.before.before in
-    (rw (m.0, ← m.1) c.columns.ensures.is, λ e. rw (← m.1) (c.columns.ensures.then e))
+    record { is = rw (m.0, ← m.1) c.columns.ensures.is; then = λ e. rw (← m.1) (c.columns.ensures.then e) }

@@ -17,4 +17,4 @@ pub returns : goal.returns
 returns c =
     let o = c.rows.ensures in
     let e = c.row_kind.ensures in
-    (rw e at (told_rows (pass_of c.row_kind.result) c.args.n c.args.work.now c.rows.result o), rw e at o.made)
+    record { is = rw e at (told_rows (pass_of c.row_kind.result) c.args.n c.args.work.now c.rows.result o); then = rw e at o.made }

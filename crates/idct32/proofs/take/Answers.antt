@@ -15,10 +15,10 @@ pub all_short-requires : goal.all_short-requires
 all_short-requires c = c.requires.1
 
 pub returns-then-not-all_short : goal.returns-then-not-all_short
-returns-then-not-all_short c = (sym (not-true c.all_short.result c.if-not-all_short.true) ∙ c.all_short.ensures, λ e. never e)
+returns-then-not-all_short c = record { is = sym (not-true c.all_short.result c.if-not-all_short.true) ∙ c.all_short.ensures; then = λ e. never e }
 
 pub copy-requires : goal.copy-requires
 copy-requires c = (c.requires.0, c.requires.1, all c.before)
 
 pub returns : goal.returns
-returns c = (sym (all c.before.before), λ _. c.copy.ensures)
+returns c = record { is = sym (all c.before.before); then = λ _. c.copy.ensures }

@@ -14,7 +14,7 @@ use Rattle.narrow.proofs.fsb16.Goals as goal
 
 -- the place behind a call, with what was known there
 abbrev After-struct_told-1 : Type 0
-After-struct_told-1 = lts.After-struct_told tie.the-claims reads.Pre reads.Post
+After-struct_told-1 = lts.After-struct_told tie.the-claims reads.Pre reads.Post tie.handed_clauses
 
 x_is : (c : After-struct_told-1) → rd w32 c.turn-r.result.x ≡ spin_x c.args.t.now c.args.a c.args.b c.args.cos c.args.sin
 x_is c =
@@ -26,11 +26,11 @@ y_is c =
 
 pub returns-then-flip : goal.returns-then-flip
 unfolding set_pair
-returns-then-flip c = let r = c.turn-r.ensures in (rw (c.if-flip.true, x_is c.before.before, y_is c.before.before), (r.a_in, r.b_in))
+returns-then-flip c = let r = c.turn-r.ensures in record { made = rw (c.if-flip.true, x_is c.before.before, y_is c.before.before); told = (r.a_in, r.b_in) }
 
 pub returns-else-flip : goal.returns-else-flip
 unfolding set_pair
-returns-else-flip c = let r = c.turn-r.ensures in (rw (c.if-flip.false, x_is c.before.before, y_is c.before.before), (r.a_in, r.b_in))
+returns-else-flip c = let r = c.turn-r.ensures in record { made = rw (c.if-flip.false, x_is c.before.before, y_is c.before.before); told = (r.a_in, r.b_in) }
 
 pub turn-r-requires : goal.turn-r-requires
 turn-r-requires c = rw (to_z-of_z c.ranges.cos, to_z-of_z c.ranges.sin) c.requires.2

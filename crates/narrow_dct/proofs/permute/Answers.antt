@@ -15,7 +15,7 @@ use Rattle.primitives.specs.Brev.{Brev}
 use Rattle.primitives.proofs.Reversal.{brev_lt}
 use Rattle.flat.proofs.Exchange.{exchange, exchanges, exchanges_none, exchanges_more, exchange_taken, exchange_left, reversed, inside, group}
 use Rattle.narrow_dct.proofs.permute.Goals as goal
-use Rattle.narrow_dct.proofs.permute.Goals.{After-brev-j, In-loop-b, Joined-i-j}
+use Rattle.narrow_dct.proofs.permute.Goals.{After-brev-j, In-loop-b, Joined-i-j, else-i-j, then-i-j}
 
 -- the place of a turn, and its reverse, are places of t
 place : (c : In-loop-b) → c.args.k * c.loop-a.a + c.loop-b.b < 32
@@ -78,12 +78,11 @@ turn c =
     let i = c.args.k * c.loop-a.a + c.loop-b.b in
     let j = c.brev-j.result in
     let y = c.loop-b.t in
-    ⊎_elim
-    (λ w.
-    w.3
-    ∙ rw (rd_ok w16 {z = get_or y i (pos 0)} w.1.given, rd_ok w16 {z = get_or y j (pos 0)} w.2.given) (sym (exchange_taken i j y w.0.taken)))
-    (λ w. w.1 ∙ sym (exchange_left i j y w.0.left))
-    c.if-i-j.branch
+    elim c.if-i-j.branch [
+      | then-i-j w ↦ w.t-is
+          ∙ rw (rd_ok w16 {z = get_or y i (pos 0)} w.x-1.given, rd_ok w16 {z = get_or y j (pos 0)} w.t-1.given) (sym (exchange_taken i j y w.if-i-j.true))
+      | else-i-j w ↦ w.t-is ∙ sym (exchange_left i j y w.if-i-j.false)
+    ]
 
 pub loop-b-preserved : goal.loop-b-preserved
 loop-b-preserved c =

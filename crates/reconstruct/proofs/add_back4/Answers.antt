@@ -12,10 +12,7 @@ use Rattle.reconstruct.proofs.add_back4.Goals as goal
 pub add_rows-requires : goal.add_rows-requires
 add_rows-requires c =
     let rows = sym c.if-rows-eq4.true ∙ c.cut-rows.ensures in
-    let cols = sym c.if-cols-eq4.true ∙ c.cut-cols.ensures in (
-      (c.requires.0, omega (arith, cols), rows, cols),
-      (omega arith, omega arith, λ i j h l. omega (arith, c.requires.1, below_sixteen i j h l), c.requires.2),
-    )
+    let cols = sym c.if-cols-eq4.true ∙ c.cut-cols.ensures in record { samples_of = (c.requires.0, omega (arith, cols), rows, cols); n0_bound = (omega arith, omega arith, λ i j h l. omega (arith, c.requires.1, below_sixteen i j h l), c.requires.2) }
 
 pub add_back-requires : goal.add_back-requires
 add_back-requires c =

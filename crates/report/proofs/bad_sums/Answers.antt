@@ -12,6 +12,7 @@ use Rattle.blocks.proofs.Live.{any_next}
 use Rattle.answers.specs.Limits.{codeable}
 use Rattle.report.proofs.Above.{sums_are}
 use Rattle.report.proofs.bad_sums.Goals as goal
+use Rattle.report.proofs.bad_sums.Goals.{else-wide32-sums, then-wide32-sums}
 
 pub overflow_mul-wide32 : goal.overflow_mul-wide32
 overflow_mul-wide32 c = omega (arith, c.wide32.ensures.1)
@@ -21,10 +22,7 @@ loop-k-preserved c =
     let w = c.wide32 in
     let a = c.args in (
       omega arith,
-      ⊎_elim
-          (λ h. h.1 ∙ sym (any_hit _ c.loop-k.k (c.loop-k.k + 1) (omega arith) (rw w.ensures.0 at (lt-ltb _ _ h.0.taken))))
-          (λ h. any_next _ c.loop-k.k (h.1 ∙ c.loop-k.invariant.1) (rw w.ensures.0 at (le-ltb _ _ h.0.left)))
-          c.if-wide32-sums.branch,
+      elim c.if-wide32-sums.branch [ then-wide32-sums h ↦ h.JOIN-is ∙ sym (any_hit _ c.loop-k.k (c.loop-k.k + 1) (omega arith) (rw w.ensures.0 at (lt-ltb _ _ h.if-wide32-sums.true))) | else-wide32-sums h ↦ any_next _ c.loop-k.k (h.JOIN-is ∙ c.loop-k.invariant.1) (rw w.ensures.0 at (le-ltb _ _ h.if-wide32-sums.false)) ],
     )
 
 pub returns : goal.returns

@@ -75,7 +75,7 @@ pub put-requires : goal.put-requires
 put-requires c = omega arith
 
 pub dequantize_strip-requires : goal.dequantize_strip-requires
-dequantize_strip-requires c = ((c.requires.z_value.1, c.requires.z_value.2, c.requires.z_value.3, omega (arith, side_least (c.args.size + 2) (omega (arith, c.requires.z_value.1)) (omega (arith, c.requires.z_value.2))), c.requires.z_value.4, c.requires.z_value.5, omega arith), (c.requires.dc_quant_value.1, ac_short c.before.before.before.before.before))
+dequantize_strip-requires c = record { le_size = (c.requires.z_value.1, c.requires.z_value.2, c.requires.z_value.3, omega (arith, side_least (c.args.size + 2) (omega (arith, c.requires.z_value.1)) (omega (arith, c.requires.z_value.2))), c.requires.z_value.4, c.requires.z_value.5, omega arith); ac_quant_value = (c.requires.dc_quant_value.1, ac_short c.before.before.before.before.before) }
 
 pub overflow_add-size : goal.overflow_add-size
 overflow_add-size c = record { fits = omega (arith, c.requires.z_value.2) }
@@ -87,4 +87,4 @@ pub loop-q-init : goal.loop-q-init
 loop-q-init c = (omega arith, omega (arith, c.side-q-end.ensures.0, side_least (c.args.size + 2) (omega (arith, c.requires.z_value.1)) (omega (arith, c.requires.z_value.2))), λ dc h g. g)
 
 pub dequantize_strip-requires-in-loop-q : goal.dequantize_strip-requires-in-loop-q
-dequantize_strip-requires-in-loop-q c = ((c.requires.z_value.1, c.requires.z_value.2, c.requires.z_value.3, omega (arith, c.side-q-end.ensures.0), omega arith, c.requires.z_value.5, omega (arith, c.loop-q.invariant.0)), (c.requires.dc_quant_value.1, ac_short c.before.before.before.before.before.before.before.before.before.before))
+dequantize_strip-requires-in-loop-q c = record { le_size = (c.requires.z_value.1, c.requires.z_value.2, c.requires.z_value.3, omega (arith, c.side-q-end.ensures.0), omega arith, c.requires.z_value.5, omega (arith, c.loop-q.invariant.0)); ac_quant_value = (c.requires.dc_quant_value.1, ac_short c.before.before.before.before.before.before.before.before.before.before) }

@@ -13,8 +13,7 @@ loop-j-preserved c =
       omega arith,
       omega (arith, l.invariant.1),
       simp length-set l.invariant.2,
-      λ i h k. ⊎_elim
-          (λ (q : i ≡ l.j). rw q (get_or-set_same l.o l.j _ (pos 0) (omega (arith, l.invariant.2)) ∙ e))
+      λ i h k. ⊎_elim (λ (q : i ≡ l.j). rw q (get_or-set_same l.o l.j _ (pos 0) (omega (arith, l.invariant.2)) ∙ e))
           (λ (q : i < l.j). get_or-set_other l.o l.j i _ (pos 0) (λ e. absurd (omega arith)) ∙ l.invariant.3 i h q)
           (eq-or-lt_of_le (omega arith)),
     )

@@ -72,7 +72,7 @@ returns-then-tx_type-eq0 c =
 pub dequantize-requires : goal.dequantize-requires
 dequantize-requires c =
     let w = scanned c.before.before.before.before.before.before in
-    ((c.requires.0, (lent c.before.before.before.before.before.before.before.before.before).larger, omega (arith, (lent c.before.before.before.before.before.before.before.before.before).possible.most), (lent c.before.before.before.before.before.before.before.before.before).all, omega (arith, w.least), w.most, w.dead), ((lent c.before.before.before.before.before.before.before.before.before).dc_ok, (lent c.before.before.before.before.before.before.before.before.before).ac_ok, shorts c.before.before.before.before))
+    record { z_value = (c.requires.0, (lent c.before.before.before.before.before.before.before.before.before).larger, omega (arith, (lent c.before.before.before.before.before.before.before.before.before).possible.most), (lent c.before.before.before.before.before.before.before.before.before).all, omega (arith, w.least), w.most, w.dead); dc_quant_value = ((lent c.before.before.before.before.before.before.before.before.before).dc_ok, (lent c.before.before.before.before.before.before.before.before.before).ac_ok, shorts c.before.before.before.before) }
 
 pub passes-requires : goal.passes-requires
 passes-requires c =

@@ -9,7 +9,7 @@ use Rattle.residual16.specs.Inner.{Weighed, Scanned}
 use Rattle.residual16.proofs.Sums.{weighed_none, weighed_join, dead_more}
 use Rattle.residual16.proofs.Tiles.{eights, side_least, whole_strips, strip_in}
 use Rattle.residual16.proofs.weigh.Goals as goal
-use Rattle.residual16.proofs.weigh.Goals.{After-side-n0}
+use Rattle.residual16.proofs.weigh.Goals.{After-side-n0, else-w-ne0, then-w-ne0}
 
 module _ (c : After-side-n0) where
   abbrev n0 : ℕ
@@ -41,22 +41,22 @@ loop-s-preserved c =
     let j = weighed_join 0 m (8 * n0 c.before.before.before.before.before.before.before) t c.loop-s.all c.loop-s.sum al ad c.loop-s.invariant.1 (rw z v) in
     let joined : Weighed 0 (8 * n0 c.before.before.before.before.before.before.before * (c.loop-s.s + 1)) t (bit_or c.loop-s.all al) c.wrapping_add_u64-sum.result = rw (e, c.wrapping_add_u64-sum.ensures) j in
     let h : c.loop-s.s + 1 ≤ n0 c.before.before.before.before.before.before.before / 8 = omega arith in
-    ⊎_elim
-    (λ g. (
-      h,
-      joined,
-      omega (arith, g.1),
-      omega (arith, g.1),
-      λ k p q. absurd (let u : 8 * (c.loop-s.s + 1) * n0 c.before.before.before.before.before.before.before ≤ k = rw g.1 at p in omega (arith, u, NatL.mul_comm (c.loop-s.s + 1) (n0 c.before.before.before.before.before.before.before), NatL.mul_assoc 8 (c.loop-s.s + 1) (n0 c.before.before.before.before.before.before.before), NatL.mul_assoc 8 (n0 c.before.before.before.before.before.before.before) (c.loop-s.s + 1))),
-    ))
-    (λ g. (
-      h,
-      joined,
-      omega (arith, g.1, c.loop-s.invariant.2),
-      omega (arith, g.1, c.loop-s.invariant.3),
-      λ k p q. dead_more t (n0 c.before.before.before.before.before.before.before) c.loop-s.s c.loop-s.strips al ad v g.0.left c.loop-s.invariant.4 k (rw g.1 at p) (omega (arith, e)),
-    ))
-    c.if-w-ne0.branch
+    elim c.if-w-ne0.branch [
+      | then-w-ne0 g ↦ (
+        h,
+        joined,
+        omega (arith, g.JOIN-is),
+        omega (arith, g.JOIN-is),
+        λ k p q. absurd (let u : 8 * (c.loop-s.s + 1) * n0 c.before.before.before.before.before.before.before ≤ k = rw g.JOIN-is at p in omega (arith, u, NatL.mul_comm (c.loop-s.s + 1) (n0 c.before.before.before.before.before.before.before), NatL.mul_assoc 8 (c.loop-s.s + 1) (n0 c.before.before.before.before.before.before.before), NatL.mul_assoc 8 (n0 c.before.before.before.before.before.before.before) (c.loop-s.s + 1))),
+      )
+      | else-w-ne0 g ↦ (
+        h,
+        joined,
+        omega (arith, g.JOIN-is, c.loop-s.invariant.2),
+        omega (arith, g.JOIN-is, c.loop-s.invariant.3),
+        λ k p q. dead_more t (n0 c.before.before.before.before.before.before.before) c.loop-s.s c.loop-s.strips al ad v g.if-w-ne0.false c.loop-s.invariant.4 k (rw g.JOIN-is at p) (omega (arith, e)),
+      )
+    ]
 
 -- from there on, also past the end
 zeros : (t : List ℤ) (n strips : ℕ) → length t ≡ area n → ((k : ℕ) → 8 * strips * side n ≤ k → k < area n → get_or t k (pos 0) ≡ pos 0)

@@ -8,7 +8,7 @@ use Rattle.blocks.proofs.Passes.{small_valid}
 use Rattle.summary.specs.Summary.{is_set}
 use Rattle.row_pass.proofs.Turn.{RowTurn, Job, rows_job, row_none, turn_safe, row_next, row_skip, row_done}
 use Rattle.row_pass.proofs.rows4.Goals as goal
-use Rattle.row_pass.proofs.rows4.Goals.{Start}
+use Rattle.row_pass.proofs.rows4.Goals.{Start, else-is_set, then-is_set}
 
 -- all rows of the block
 job : (c : Start) → Job (lossy c.args.use_dct) 4 c.args.block.now
@@ -22,11 +22,11 @@ row4-count-requires c =
 pub loop-i-preserved : goal.loop-i-preserved
 loop-i-preserved c =
     let j = job c.before.before.before.before in
-    ⊎_elim
-    (λ w. rw (w.5, w.6, w.7)
-    (row_next j c.loop-i.invariant c.loop-i-test.true (sym c.is_set.ensures ∙ w.0.taken) w.3.ensures.0 w.3.ensures.1 w.3.ensures.2))
-    (λ w. rw (w.1, w.2, w.3) (row_skip j c.loop-i.invariant c.loop-i-test.true (sym c.is_set.ensures ∙ w.0.left)))
-    c.if-is_set.branch
+    elim c.if-is_set.branch [
+      | then-is_set w ↦ rw (w.JOIN-is, w.JOIN-is, w.JOIN-is)
+          (row_next j c.loop-i.invariant c.loop-i-test.true (sym c.is_set.ensures ∙ w.if-is_set.true) w.row4-count.ensures.0 w.row4-count.ensures.1 w.row4-count.ensures.2)
+      | else-is_set w ↦ rw (w.JOIN-is, w.JOIN-is, w.JOIN-is) (row_skip j c.loop-i.invariant c.loop-i-test.true (sym c.is_set.ensures ∙ w.if-is_set.false))
+    ]
 
 pub returns : goal.returns
 returns c = row_done c.loop-i.invariant c.loop-i-test.false

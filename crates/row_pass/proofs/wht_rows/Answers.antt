@@ -7,7 +7,7 @@ use Rattle.blocks.specs.Inverse.{Wht}
 use Rattle.summary.specs.Summary.{is_set}
 use Rattle.row_pass.proofs.Turn.{RowTurn, Job, rows_job, row_none, turn_safe, row_next, row_skip, row_done}
 use Rattle.row_pass.proofs.wht_rows.Goals as goal
-use Rattle.row_pass.proofs.wht_rows.Goals.{Start}
+use Rattle.row_pass.proofs.wht_rows.Goals.{Start, else-is_set, then-is_set}
 
 -- all rows of the block
 job : (c : Start) → Job (Wht 2) 2 c.args.block.now
@@ -21,11 +21,11 @@ wht_row-count-requires c =
 pub loop-i-preserved : goal.loop-i-preserved
 loop-i-preserved c =
     let j = job c.before.before.before.before in
-    ⊎_elim
-    (λ w. rw (w.5, w.6, w.7)
-    (row_next j c.loop-i.invariant c.loop-i-test.true (sym c.is_set.ensures ∙ w.0.taken) w.3.ensures.0 w.3.ensures.1 w.3.ensures.2))
-    (λ w. rw (w.1, w.2, w.3) (row_skip j c.loop-i.invariant c.loop-i-test.true (sym c.is_set.ensures ∙ w.0.left)))
-    c.if-is_set.branch
+    elim c.if-is_set.branch [
+      | then-is_set w ↦ rw (w.JOIN-is, w.JOIN-is, w.JOIN-is)
+          (row_next j c.loop-i.invariant c.loop-i-test.true (sym c.is_set.ensures ∙ w.if-is_set.true) w.wht_row-count.ensures.0 w.wht_row-count.ensures.1 w.wht_row-count.ensures.2)
+      | else-is_set w ↦ rw (w.JOIN-is, w.JOIN-is, w.JOIN-is) (row_skip j c.loop-i.invariant c.loop-i-test.true (sym c.is_set.ensures ∙ w.if-is_set.false))
+    ]
 
 pub returns : goal.returns
 returns c = row_done c.loop-i.invariant c.loop-i-test.false

@@ -12,7 +12,7 @@ use Rattle.summary.specs.Summary.{those, mask, live_rows, summary_of}
 use Rattle.summary.proofs.Digits.{one_shl}
 use Rattle.summary.proofs.Rows.{mask_none, mask_lt, mask_yes, mask_no}
 use Rattle.summary.proofs.scan.Goals as goal
-use Rattle.summary.proofs.scan.Goals.{Start}
+use Rattle.summary.proofs.scan.Goals.{Start, else-row_live, then-row_live}
 
 -- row i is live
 abbrev row : (s : Start) → ℕ → Bool
@@ -44,10 +44,7 @@ loop-i-preserved c =
     let h : l.i < 32 = let m = c.requires.1 in omega arith in
     let more : ℕ → ℕ = λ x. x + 2 ^ l.i in (
       omega arith,
-      ⊎_elim
-          (λ w. rw (one_shl l.i h) at w.1 ∙ ap more l.invariant.1 ∙ mask_yes (row c.before.before.before.before) l.i (sym c.row_live.ensures ∙ w.0.taken))
-          (λ w. w.1 ∙ l.invariant.1 ∙ mask_no (row c.before.before.before.before) l.i (sym c.row_live.ensures ∙ w.0.left))
-          c.if-row_live.branch,
+      elim c.if-row_live.branch [ then-row_live w ↦ rw (one_shl l.i h) at w.summary-is ∙ ap more l.invariant.1 ∙ mask_yes (row c.before.before.before.before) l.i (sym c.row_live.ensures ∙ w.if-row_live.true) | else-row_live w ↦ w.summary-is ∙ l.invariant.1 ∙ mask_no (row c.before.before.before.before) l.i (sym c.row_live.ensures ∙ w.if-row_live.false) ],
     )
 
 pub returns : goal.returns

@@ -33,7 +33,7 @@ loop-k-preserved c =
 pub returns : goal.returns
 returns c =
     let l = c.loop-k in
-    (fill_done _ _ _ _ (search rules) (search rules) l.invariant.1, λ k h. l.invariant.2 k (omega arith))
+    record { made = fill_done _ _ _ _ (search rules) (search rules) l.invariant.1; told = λ k h. l.invariant.2 k (omega arith) }
 
 pub loop-k-init : goal.loop-k-init
 loop-k-init c = (omega arith, fill_none _ _, λ j h. absurd (omega arith))

@@ -14,7 +14,7 @@ use Rattle.primitives.specs.Brev.{Brev}
 use Rattle.primitives.proofs.Reversal.{brev_lt}
 use Rattle.flat.proofs.Exchange.{exchange, exchanges, exchanges_none, exchanges_more, exchange_taken, exchange_left, reversed}
 use Rattle.tested.proofs.reverse.Goals as goal
-use Rattle.tested.proofs.reverse.Goals.{After-brev-j, In-loop-i, Joined-i-j}
+use Rattle.tested.proofs.reverse.Goals.{After-brev-j, In-loop-i, Joined-i-j, else-i-j, then-i-j}
 
 -- the place of a turn, and its reverse, are places of t
 place : (c : In-loop-i) → c.loop-i.i < 32
@@ -30,12 +30,11 @@ turn c =
     let i = c.loop-i.i in
     let j = c.brev-j.result in
     let y = c.loop-i.t in
-    ⊎_elim
-    (λ w.
-    w.3
-    ∙ rw (rd_ok w16 {z = get_or y i (pos 0)} w.1.given, rd_ok w16 {z = get_or y j (pos 0)} w.2.given) (sym (exchange_taken i j y w.0.taken)))
-    (λ w. w.1 ∙ sym (exchange_left i j y w.0.left))
-    c.if-i-j.branch
+    elim c.if-i-j.branch [
+      | then-i-j w ↦ w.t-is
+          ∙ rw (rd_ok w16 {z = get_or y i (pos 0)} w.x-1.given, rd_ok w16 {z = get_or y j (pos 0)} w.t-1.given) (sym (exchange_taken i j y w.if-i-j.true))
+      | else-i-j w ↦ w.t-is ∙ sym (exchange_left i j y w.if-i-j.false)
+    ]
 
 pub loop-i-preserved : goal.loop-i-preserved
 loop-i-preserved c =

@@ -14,7 +14,7 @@ use borrow.Author.Tests.{lt-ltb, le-ltb}
 use Rattle.tokens.specs.Inner.{any_above}
 use Rattle.tokens.proofs.Above.{counted, above_none, above_hit, above_miss}
 use Rattle.tokens.proofs.some_above.Goals as goal
-use Rattle.tokens.proofs.some_above.Goals.{Joined-bound_at-magnitude}
+use Rattle.tokens.proofs.some_above.Goals.{Joined-bound_at-magnitude, else-bound_at-magnitude, then-bound_at-magnitude}
 
 -- what the turn compares
 bounded : (c : Joined-bound_at-magnitude) → let a = c.args in
@@ -31,10 +31,7 @@ pub loop-k-preserved : goal.loop-k-preserved
 loop-k-preserved c =
     let l = c.loop-k in
     let a = c.args in
-    ⊎_elim
-    (λ w. (omega arith, omega (arith, w.1), rw w.1 (above_hit a.dc a.ac a.tokens.now l.k l.above (rw (bounded c, seen c) at w.0.taken))))
-    (λ w. (omega arith, omega (arith, w.1), rw w.1 (above_miss a.dc a.ac a.tokens.now l.k (rw (bounded c, seen c) at w.0.left) l.invariant.2)))
-    c.if-bound_at-magnitude.branch
+    elim c.if-bound_at-magnitude.branch [ then-bound_at-magnitude w ↦ (omega arith, omega (arith, w.above-is), rw w.above-is (above_hit a.dc a.ac a.tokens.now l.k l.above (rw (bounded c, seen c) at w.if-bound_at-magnitude.true))) | else-bound_at-magnitude w ↦ (omega arith, omega (arith, w.above-is), rw w.above-is (above_miss a.dc a.ac a.tokens.now l.k (rw (bounded c, seen c) at w.if-bound_at-magnitude.false) l.invariant.2)) ]
 
 pub returns : goal.returns
 returns c =
