@@ -45,16 +45,16 @@ loop-s-preserved c =
       | then-w-ne0 g ↦ (
         h,
         joined,
-        omega (arith, g.JOIN-is),
-        omega (arith, g.JOIN-is),
-        λ k p q. absurd (let u : 8 * (c.loop-s.s + 1) * n0 c.before.before.before.before.before.before.before ≤ k = rw g.JOIN-is at p in omega (arith, u, NatL.mul_comm (c.loop-s.s + 1) (n0 c.before.before.before.before.before.before.before), NatL.mul_assoc 8 (c.loop-s.s + 1) (n0 c.before.before.before.before.before.before.before), NatL.mul_assoc 8 (n0 c.before.before.before.before.before.before.before) (c.loop-s.s + 1))),
+        omega (arith, g.JOIN0-is),
+        omega (arith, g.JOIN0-is),
+        λ k p q. absurd (let u : 8 * (c.loop-s.s + 1) * n0 c.before.before.before.before.before.before.before ≤ k = rw g.JOIN0-is at p in omega (arith, u, NatL.mul_comm (c.loop-s.s + 1) (n0 c.before.before.before.before.before.before.before), NatL.mul_assoc 8 (c.loop-s.s + 1) (n0 c.before.before.before.before.before.before.before), NatL.mul_assoc 8 (n0 c.before.before.before.before.before.before.before) (c.loop-s.s + 1))),
       )
       | else-w-ne0 g ↦ (
         h,
         joined,
-        omega (arith, g.JOIN-is, c.loop-s.invariant.2),
-        omega (arith, g.JOIN-is, c.loop-s.invariant.3),
-        λ k p q. dead_more t (n0 c.before.before.before.before.before.before.before) c.loop-s.s c.loop-s.strips al ad v g.if-w-ne0.false c.loop-s.invariant.4 k (rw g.JOIN-is at p) (omega (arith, e)),
+        omega (arith, g.JOIN0-is, c.loop-s.invariant.2),
+        omega (arith, g.JOIN0-is, c.loop-s.invariant.3),
+        λ k p q. dead_more t (n0 c.before.before.before.before.before.before.before) c.loop-s.s c.loop-s.strips al ad v g.if-w-ne0.false c.loop-s.invariant.4 k (rw g.JOIN0-is at p) (omega (arith, e)),
       )
     ]
 
