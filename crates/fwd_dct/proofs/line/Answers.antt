@@ -29,11 +29,15 @@ use Rattle.fwd_dct.proofs.line.Goals as goal
 use Rattle.fwd_dct.proofs.line.Lts as lts
 use Rattle.fwd_dct.proofs.line.Tie as tie
 use Rattle.fwd_dct.proofs.line.Reads as reads
-use Rattle.fwd_dct.proofs.line.Goals.{After-dot, After-dot-in-loop-m}
+use Rattle.fwd_dct.proofs.line.Goals.{After-dot-in-loop-m}
+
+-- the place behind a step, with what was known there
+abbrev After-dot : Type 0
+After-dot = lts.After-dot tie.the-claims reads.Pre reads.Post goal.the-invariant-loop-m goal.the-decreases-loop-m tie.handed_clauses
 
 -- the place behind a step, with what was known there
 abbrev In-loop-m : Type 0
-In-loop-m = lts.In-loop tie.the-claims reads.Pre reads.Post goal.the-invariant-loop-m goal.the-decreases-loop-m
+In-loop-m = lts.In-loop tie.the-claims reads.Pre reads.Post goal.the-invariant-loop-m goal.the-decreases-loop-m tie.handed_clauses
 
 pub fold-requires : goal.fold-requires
 fold-requires c =
@@ -68,7 +72,7 @@ taken d = rw d.side-n0.ensures.0 at d.fold.ensures.taken
 
 pub overflow_mul-k-in-loop-m : goal.overflow_mul-k-in-loop-m
 overflow_mul-k-in-loop-m c =
-    omega (arith, row_low c.before.before (2 * c.loop-m.m) (omega (arith, pair_below c.before)))
+    omega (arith, row_low c.before.before (2 * c.loop-m.m) (omega (arith, pair_below c.before.before)))
 
 pub dot-requires : goal.dot-requires
 dot-requires c =
@@ -77,7 +81,7 @@ dot-requires c =
     let h = c.requires.1 in
     rw e (
       omega (arith, side_most c.args.n l h),
-      row_low c.before.before (2 * c.loop-m.m) (omega (arith, pair_below c.before)),
+      row_low c.before.before (2 * c.loop-m.m) (omega (arith, pair_below c.before.before)),
       half_within c.args.n l h _ (replicate 16 (pos 0)) _ refl (summed c.before.before)
           (λ i q. within_add (c.requires.4 i (omega (arith, halves c.args.n l h))) (c.requires.4 (2 * (side c.args.n / 2) - 1 - i) (omega (arith, halves c.args.n l h)))),
     )
@@ -85,22 +89,22 @@ dot-requires c =
 pub overflow_mul-block : goal.overflow_mul-block
 overflow_mul-block c =
     let q = pair_below c.before.before.before in
-    omega (arith, place c.before.before (2 * c.loop-m.m) (omega arith))
+    omega (arith, place c.before.before.before (2 * c.loop-m.m) (omega arith))
 
 pub overflow_add-block : goal.overflow_add-block
 overflow_add-block c =
     let q = pair_below c.before.before.before in
-    omega (arith, place c.before.before (2 * c.loop-m.m) (omega arith))
+    omega (arith, place c.before.before.before (2 * c.loop-m.m) (omega arith))
 
 pub offset_bounds-block-start : goal.offset_bounds-block-start
 offset_bounds-block-start c =
     let q = pair_below c.before.before.before in
-    omega (arith, place c.before.before (2 * c.loop-m.m) (omega arith))
+    omega (arith, place c.before.before.before (2 * c.loop-m.m) (omega arith))
 
 pub bounds-block-start : goal.bounds-block-start
 bounds-block-start c =
     let q = pair_below c.before.before.before in
-    omega (arith, place c.before.before (2 * c.loop-m.m) (omega arith))
+    omega (arith, place c.before.before.before (2 * c.loop-m.m) (omega arith))
 
 pub overflow_mul-k-in-loop-m-2 : goal.overflow_mul-k-in-loop-m-2
 overflow_mul-k-in-loop-m-2 c =
@@ -144,7 +148,7 @@ even c =
     let k = 2 * c.loop-m.m in
     rd_ok w64 c.dot.type_inv
     ∙ rw (e, c.stride-next.ensures.0) at c.dot.ensures
-    ∙ half_coef c.args.n l h c.args.block.now c.args.start c.args.step c.fold.new.sums c.args.basis.now k c.requires.2 (omega (arith, pair_below c.before.before.before))
+    ∙ half_coef c.args.n l h c.args.block.now c.args.start c.args.step c.fold.new.sums c.args.basis.now k c.requires.2 (omega (arith, pair_below c.before.before))
     (λ i q. ap (λ (x : List ℤ). get_or x i (pos 0)) (summed c.before.before) ∙ fill_at (side c.args.n / 2) _ (replicate 16 (pos 0)) i (omega (arith, side_most c.args.n l h)) q
     ∙ ap (λ (z : ℤ). get_or c.args.block.now (c.args.start + i * c.args.step) (pos 0) +ℤ z) (turn_even k _ (omega arith)))
 

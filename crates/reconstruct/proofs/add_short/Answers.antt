@@ -12,7 +12,7 @@ use Rattle.reconstruct.proofs.add_short.Goals.{Else-not-residual}
 
 -- the residual stands in the block
 served : (e : Else-not-residual) → let a = e.args in Served a.size a.dc_quant a.ac_quant a.tx_type a.tokens.now e.residual.new.z
-served e = e.residual.ensures (not-false e.residual.result e.if-not-residual.false)
+served e = e.residual.ensures (e.if-not-residual.false)
 
 pub add_back-requires : goal.add_back-requires
 add_back-requires c =
