@@ -29,11 +29,15 @@ use Rattle.idct32.proofs.inverse_transform_2d_32.Lts as lts
 use Rattle.idct32.proofs.inverse_transform_2d_32.Tie as tie
 use Rattle.idct32.proofs.inverse_transform_2d_32.Reads as reads
 use Rattle.idct32.proofs.inverse_transform_2d_32.Goals as goal
-use Rattle.idct32.proofs.inverse_transform_2d_32.Goals.{After-any_beyond, After-total-sum, Else-code-ne0, Else-not-take, Start, Then-not-take}
+use Rattle.idct32.proofs.inverse_transform_2d_32.Goals.{After-any_beyond, After-total-sum, Else-code-ne0, Start, Then-not-take}
+
+-- the place behind a step, with what was known there
+abbrev Else-not-take : Type 0
+Else-not-take = lts.Else2 tie.the-claims reads.Pre reads.Post tie.handed_clauses
 
 -- the place behind a call, with what was known there
 abbrev After-take : Type 0
-After-take = lts.After-take tie.the-claims reads.Pre reads.Post
+After-take = lts.After-take tie.the-claims reads.Pre reads.Post tie.handed_clauses
 
 -- what the call is given
 abbrev given : Start → Input
@@ -86,7 +90,7 @@ returns-then-not-take c =
 work : (c : Else-not-take) → Entered (given c.before.before.before.before.before.before.before.before) c.take.new.work
 work c =
     let r = c.if-not-take.false in
-    entered (given c.before.before.before.before.before.before.before.before) c.take.new.work (passed c.before.before.before.before.before) (sym (test c.before) ∙ r) (rw (c.area-count.ensures.0, c.zeros-work.ensures) at (c.take.ensures.then r))
+    entered (given c.before.before.before.before.before.before.before.before) c.take.new.work (passed c.before.before.before.before.before) (sym (test c.before.before) ∙ r) (rw (c.area-count.ensures.0, c.zeros-work.ensures) at (c.take.ensures.then r))
 
 sum_is : (c : After-total-sum) → c.total-sum.result ≡ total (area (given c.before.before.before.before.before.before.before.before.before.before).n) c.take.new.work
 sum_is c = rw c.area-count.ensures.0 at c.total-sum.ensures

@@ -80,3 +80,11 @@ returns-then-not-sums c = on_stop Dct 2 sized (after3 c.before.before.before) nt
 
 pub returns : goal.returns
 returns c = on_last Dct 2 sized (after4 c.before.before) nth4 _ c.sums-2.ensures no_more
+
+pub turn-requires : goal.turn-requires
+unfolding known among
+turn-requires c = search rules
+
+pub turn-requires-2 : goal.turn-requires-2
+unfolding known among
+turn-requires-2 c = search rules
