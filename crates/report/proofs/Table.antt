@@ -78,8 +78,8 @@ module _ (u : Input) where
   list_stays f list h = rw (ne_eqb (answer_of u) 0 h)
 
   -- where the report passes, the samples are reconstruction's
-  pub same_samples : R.answer_of u.block ≡ answer_of u → R.samplesAfter u.block ≡ samples_after u
-  unfolding samples_after R.samplesAfter
+  pub same_samples : R.answer_of u.block ≡ answer_of u → R.samples_after u.block ≡ samples_after u
+  unfolding samples_after R.samples_after
   same_samples h = rw (sym h) (twice (eqb (R.answer_of u.block) 0) _ u.block.samples)
 
   pub list_done : (f : ℕ → ℕ) (list : List ℕ) → answer_of u ≡ 0 → noted f u.block.size (length u.block.tokens) u.block.tokens list ≡ list_after f u list
@@ -148,8 +148,8 @@ unwritten p top y n0 r samples =
     sym (tabulate_is 0 _ samples (length samples) refl
     (λ k h. sym (rw none (off_columns top r p.width y samples (cut p.height y n0) 0 (row_of p k) (column_of p k) k (outside p.width (column_of p k))))))
 
-pub beside_samples : (u : R.Input) → R.samplesAfter (beside u) ≡ u.samples
-unfolding R.samplesAfter R.added
+pub beside_samples : (u : R.Input) → R.samples_after (beside u) ≡ u.samples
+unfolding R.samples_after R.added
 beside_samples u = go (eqb (R.answer_of (beside u)) 0)
   where
     go : (b : Bool)
