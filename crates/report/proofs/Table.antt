@@ -41,9 +41,9 @@ good u h =
     let h3 = rest (bad_size u.size) 1 _ h2 in
     let h4 = rest (bad_lossless u.lossless u.size) 2 _ h3 in
     let h5 = rest (bad_tx_type u.lossless u.size u.tx_type) 3 _ h4 in
-    let h6 = rest (R.badQuantizers u.dc u.ac) 4 _ h5 in
+    let h6 = rest (R.bad_quantizers u.dc u.ac) 4 _ h5 in
     let h7 = rest (not (eqb n (area (u.size + 2)))) 5 _ h6 in
-    let h8 = rest (R.badPlane (length u.samples) u.plane) 6 _ h7 in
+    let h8 = rest (R.bad_plane (length u.samples) u.plane) 6 _ h7 in
     record {
       size_ok = ltb-false 3 u.size (pass (bad_size u.size) 1 _ h2);
       length_ok = eqb-true n (area (u.size + 2)) (not-false (eqb n (area (u.size + 2))) (pass (not (eqb n (area (u.size + 2)))) 5 _ h6));
