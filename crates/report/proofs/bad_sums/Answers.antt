@@ -22,7 +22,7 @@ loop-k-preserved c =
     let w = c.wide32 in
     let a = c.args in (
       omega arith,
-      elim c.if-wide32-sums.branch [ then-wide32-sums h ↦ h.JOIN0-is ∙ sym (any_hit _ c.loop-k.k (c.loop-k.k + 1) (omega arith) (rw w.ensures.0 at (lt-ltb _ _ h.if-wide32-sums.true))) | else-wide32-sums h ↦ any_next _ c.loop-k.k (h.JOIN0-is ∙ c.loop-k.invariant.1) (rw w.ensures.0 at (le-ltb _ _ h.if-wide32-sums.false)) ],
+      elim c.if-wide32-sums.branch [ then-wide32-sums h ↦ h.bad-is ∙ sym (any_hit _ c.loop-k.k (c.loop-k.k + 1) (omega arith) (rw w.ensures.0 at (lt-ltb _ _ h.if-wide32-sums.true))) | else-wide32-sums h ↦ any_next _ c.loop-k.k (h.bad-is ∙ c.loop-k.invariant.1) (rw w.ensures.0 at (le-ltb _ _ h.if-wide32-sums.false)) ],
     )
 
 pub returns : goal.returns
