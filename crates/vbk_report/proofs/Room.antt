@@ -14,7 +14,7 @@ use Rattle.answers.specs.Sizes.{area}
 use Rattle.answers.specs.Bad.{bad_depth, bad_size, bad_lossless, bad_tx_type, any_beyond}
 use Rattle.reconstruct.specs.Reconstruct as R
 use Rattle.report.specs.Classes.{one, itself}
-use Rattle.report.specs.Report.{ENTRIES, TOTAL_LIMIT, Input, total, bad_total, bad_sums, report_answer, answer_of, samples_after, list_after}
+use Rattle.report.specs.Report.{ENTRIES, TOTAL_LIMIT, total, bad_total, bad_sums, report_answer, samples_after, list_after}
 use Rattle.report.proofs.Table.{passes}
 use Rattle.report.proofs.Good.{total_grows, stays_good}
 use Rattle.vbk_read.specs.Header.{samples_of, first_record, header_answer}
