@@ -1,14 +1,10 @@
 -- `report::reconstruct_block_report` meets its contract.
 use mathlib.Core.Path.{◌≡◌, sym, ap, ◌∙◌}
 use mathlib.Core.Bool.{false, ◌||◌}
-use mathlib.Core.List.{List}
-use Prim.Native.Nat.{ℕ}
-use native.Mathlib.Omega.{arith}
-use borrow.Author.Rules.{rules}
 use lib.ListN.{length}
 use Rattle.reconstruct.specs.Reconstruct as R
 use Rattle.report.specs.Classes.{one, itself}
-use Rattle.report.specs.Report.{Input, answer_of, bad_total, bad_sums, Reported}
+use Rattle.report.specs.Report.{Input, answer_of, bad_total, bad_sums}
 use Rattle.report.specs.Inner.{or_fifteen}
 use Rattle.report.proofs.Table.{note_all, good, passes, fails, samples_stay, list_stays, same_samples, list_done, not_zero, corner_answer}
 use Rattle.report.proofs.Above.{room}

@@ -1,5 +1,4 @@
 use mathlib.Core.Path.{sym, ◌∙◌}
-use borrow.Author.Rules.{rules}
 use Rattle.reconstruct.specs.Reconstruct.{Input, answer_of}
 use Rattle.report.proofs.Table.{beside_answer, beside_samples, fifteen, no_fifteen}
 use Rattle.report.proofs.refused.Goals as goal
