@@ -11,10 +11,6 @@ use Rattle.report.proofs.Notes.{note_none, note_token, note_join, zeros_counted,
 use Rattle.report.proofs.count.count_eight.Goals as goal
 use Rattle.report.proofs.count.count_eight.Goals.{After-class_of}
 
-turned : (b : Bool) → not b ≡ true → b ≡ false
-turned true h = sym h
-turned false h = refl
-
 -- eight zeros
 pub overflow_add-counts : goal.overflow_add-counts
 overflow_add-counts c =
@@ -23,7 +19,7 @@ overflow_add-counts c =
 pub returns-then-not-any_live : goal.returns-then-not-any_live
 returns-then-not-any_live c =
     let a = c.args in
-    let z = sym c.any_live.ensures ∙ turned _ (ap not c.if-not-any_live.true) in
+    let z = sym c.any_live.ensures ∙ c.if-not-any_live.true in
     (zeros_counted a.size a.start 8 a.tokens.now z a.counts.now, zeros_summed a.size a.start 8 a.tokens.now z a.sums.now)
 
 pub loop-i-init : goal.loop-i-init
