@@ -106,7 +106,9 @@ pub extern "C" fn bracetwill_replace_token(
 ) -> u32
     ensures { Told replaceAnswer replaced_after (record { block = block.entry.now; summary = summary.old; size = tx_sz; place = place; token = token; dc = record { 0 = dc_quant }; ac = record { 0 = ac_quant }; depth = bit_depth }) result (record { block = block.exit.now; rows = summary.new }) }
 {
-    exports::bracetwill_replace_token(block, summary, tx_sz, place, token, dc_quant, ac_quant, bit_depth)
+    exports::bracetwill_replace_token(
+        block, summary, tx_sz, place, token, dc_quant, ac_quant, bit_depth,
+    )
 }
 
 // The 32-bit engine: the 2D driver for blocks that stay within 16 bits on the way.
@@ -141,7 +143,10 @@ pub extern "C" fn bracetwill_reconstruct_block(
 ) -> u32
     ensures { Told reconstructAnswer samples_after (record { samples = samples.entry.now; plane = record { width = width; height = height; stride = stride }; x = x; y = y; size = tx_sz; tokens = tokens.now; dc = record { 0 = dc_quant }; ac = record { 0 = ac_quant }; tx_type = tx_type; lossless = lossless; depth = bit_depth }) result samples.exit.now }
 {
-    exports::bracetwill_reconstruct_block(samples, width, height, stride, x, y, tx_sz, tokens, dc_quant, ac_quant, tx_type, lossless, bit_depth)
+    exports::bracetwill_reconstruct_block(
+        samples, width, height, stride, x, y, tx_sz, tokens, dc_quant, ac_quant, tx_type, lossless,
+        bit_depth,
+    )
 }
 
 // The same with a report beside it: every token of a block that is done is counted in its size and class.
@@ -165,7 +170,10 @@ pub extern "C" fn bracetwill_reconstruct_block_report(
 ) -> u32
     ensures { Told report_answer lent_after (record { block = record { samples = samples.entry.now; plane = record { width = width; height = height; stride = stride }; x = x; y = y; size = tx_sz; tokens = tokens.now; dc = record { 0 = dc_quant }; ac = record { 0 = ac_quant }; tx_type = tx_type; lossless = lossless; depth = bit_depth }; counts = counts.old; sums = sums.old }) result (record { samples = samples.exit.now; counts = counts.new; sums = sums.new }) }
 {
-    exports::bracetwill_reconstruct_block_report(samples, width, height, stride, x, y, tx_sz, tokens, dc_quant, ac_quant, tx_type, lossless, bit_depth, counts, sums)
+    exports::bracetwill_reconstruct_block_report(
+        samples, width, height, stride, x, y, tx_sz, tokens, dc_quant, ac_quant, tx_type, lossless,
+        bit_depth, counts, sums,
+    )
 }
 
 // The forward WHT of a block.
@@ -276,5 +284,8 @@ pub extern "C" fn bracetwill_vbk_write(
 ) -> u32
     ensures { Told request_answer buffer_after (record { lent = record { depth = depth; width = width; height = height; samples = samples.now; xs = xs.now; ys = ys.now; sizes = sizes.now; tx_types = tx_types.now; lossless = lossless.now; dcs = dcs.now; acs = acs.now; counts = counts.now; tokens = tokens.now }; out = out.entry.now; size = length.old }) result (record { out = out.exit.now; size = length.new }) }
 {
-    exports::bracetwill_vbk_write(depth, width, height, samples, xs, ys, sizes, tx_types, lossless, dcs, acs, counts, tokens, out, length)
+    exports::bracetwill_vbk_write(
+        depth, width, height, samples, xs, ys, sizes, tx_types, lossless, dcs, acs, counts, tokens,
+        out, length,
+    )
 }
