@@ -1,6 +1,6 @@
 // Reads a VBK file from standard input, runs it, and writes the run's text to standard output.
-use libc::STDIN_FILENO;
+#![tactic(auto)]
 
-fn main() {
-    vbk_io::run(STDIN_FILENO);
+fn main(rt: HostRuntime) {
+    vbk_io::run(&mut rt.stdin(), &mut rt.stdout(), &mut rt.stderr());
 }
