@@ -67,11 +67,13 @@ above m n (t ∷ ts) h (there a) =
     let p = ltb→lt m t.0 (b₁ (ltb m t.0) (rising t.0 ts) h) in
     let q = above t.0 n ts (b₂ (ltb m t.0) (rising t.0 ts) h) a in
     omega arith
+above m n [] h x'' = elim x'' [ ]
 
 pub lowest_least : (m n : ℕ) (ts : List (ℕ × Bool)) → T (rising m ts) → Applies n ts → lowest ts ≤ n
 lowest_least m n (t ∷ ts) h here = omega arith
 lowest_least m n ((k, true) ∷ ts) h (there a) = let q = above k n ts (b₂ (ltb m k) (rising k ts) h) a in omega arith
 lowest_least m n ((k, false) ∷ ts) h (there a) = lowest_least k n ts (b₂ (ltb m k) (rising k ts) h) a
+lowest_least m n [] h x'' = elim x'' [ ]
 
 pub lowest_applies : (n : ℕ) (ts : List (ℕ × Bool)) → lowest ts ≡ suc n → Applies (suc n) ts
 lowest_applies n [] h = absurd (omega arith)
@@ -86,3 +88,4 @@ lowest_above m n ((k, false) ∷ ts) h (there a) =
     let p = ltb→lt m k (b₁ (ltb m k) (rising k ts) h) in
     let q = lowest_above k n ts (b₂ (ltb m k) (rising k ts) h) a in
     omega arith
+lowest_above m n [] h x'' = elim x'' [ ]

@@ -1,3 +1,5 @@
+#![tactic(auto)]
+
 ghost use Rattle.std.specs.Prelude.{◌≡◌, ℕ, ◌-◌, ◌*◌, ◌^◌, ◌≤◌, ◌<◌, pos, get_or};
 ghost use Rattle.whole.specs.Within.{Within};
 ghost use Rattle.basis.specs.Basis.{table};

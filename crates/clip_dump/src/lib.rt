@@ -1,5 +1,7 @@
 // A clip's text made of a VBK file (docs/REFERENCE.md): a row for the header, one for each row of samples, and for each record its own row
 // and one for each row of tokens. A file that no text can say is told in words.
+#![tactic(auto)]
+
 ghost use Rattle.std.specs.Prelude.{◌≡◌, ◌+◌, ◌*◌, ◌≤◌, ◌<◌, length};
 ghost use Rattle.clip_rows.specs.Rows.{Said};
 ghost use Rattle.clip_dump.specs.Inner.{Within, Plane};

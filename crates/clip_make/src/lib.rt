@@ -1,4 +1,6 @@
 // A VBK file made of a clip's text (docs/REFERENCE.md): the rows are read into lists, the lists written by `vbk_write`.
+#![tactic(auto)]
+
 ghost use Rattle.std.specs.Prelude.{◌≤◌, length};
 ghost use Rattle.clip_state.specs.Inner.{Held};
 ghost use Rattle.clip_make.specs.Make.{MadeOf};

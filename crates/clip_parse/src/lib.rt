@@ -1,4 +1,6 @@
 // A clip's text (docs/REFERENCE.md) read into the lists of a file, row by row. What is wrong is told in words, and reading goes on.
+#![tactic(auto)]
+
 ghost use Rattle.std.specs.Prelude.{◌≡◌, ◌≤◌, ◌<◌, length};
 ghost use Rattle.clip_state.specs.Inner.{Held};
 

@@ -1,4 +1,6 @@
 // The rows of a clip's text (docs/REFERENCE.md): lines, fields and numbers read at a place, words and numbers written at one.
+#![tactic(auto)]
+
 ghost use Rattle.std.specs.Prelude.{◌≡◌, ◌+◌, ◌≤◌, ◌<◌, length};
 ghost use Rattle.clip_rows.specs.Rows.{Said};
 

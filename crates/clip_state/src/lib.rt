@@ -1,4 +1,6 @@
 // What is known of a clip's text so far, and how a row changes it.
+#![tactic(auto)]
+
 ghost use Rattle.std.specs.Prelude.{◌≡◌, ◌+◌, ◌*◌, ◌≤◌};
 ghost use Rattle.clip_state.specs.Rows.{letter_row, line_after};
 ghost use Rattle.clip_state.specs.Inner.{Held};

@@ -1,4 +1,6 @@
 // What was read of a clip's text, and what is wrong with it, in words: a line for each, with the line's number, the record's, and the fault.
+#![tactic(auto)]
+
 ghost use Rattle.std.specs.Prelude.{◌≤◌, length};
 ghost use Rattle.clip_rows.specs.Rows.{Said};
 

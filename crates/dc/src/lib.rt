@@ -1,4 +1,6 @@
 // Tests of a block's numbers, and the residual where place 0 alone is live.
+#![tactic(auto)]
+
 ghost use Rattle.std.specs.Prelude.{◌≡◌, true, false, not, ◌^◌, ◌≤◌, ltb, pos, nat_abs, length, get_or};
 ghost use Rattle.whole.specs.Lists.{fill};
 ghost use Rattle.whole.specs.Within.{Within};

@@ -1,3 +1,5 @@
+#![tactic(auto)]
+
 ghost use Rattle.std.specs.Prelude.{◌≡◌, true, ℕ, ◌+◌, ◌-◌, ◌*◌, ◌/◌, ◌^◌, ◌≤◌, ◌<◌, pos, ◌-ℤ◌, ◌+ℤ◌};
 ghost use Rattle.whole.specs.Steps.{run, each};
 ghost use Rattle.whole.specs.Inner.{Ok};

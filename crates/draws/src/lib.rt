@@ -1,6 +1,8 @@
 // Numbers drawn from a seed, with no state: number `place` of a key is the same on every host, whatever was drawn before. A call's own
 // key comes from its seed, kind and index, so that kinds and calls can be added without moving the others. And the digest: one number
 // of 64 bits from all numbers that it was fed.
+#![tactic(auto)]
+
 ghost use Rattle.std.specs.Prelude.{◌≡◌, ◌<◌, ◌≤◌, length, take};
 
 // Each half of a number times an odd constant, the halves of the second product crossed over.

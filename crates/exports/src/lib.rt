@@ -1,4 +1,6 @@
 // The public calls for C: numbers and slices in, the answer's number out. Each hands on to the proved call of its name.
+#![tactic(auto)]
+
 ghost use Rattle.std.specs.Prelude.{◌≡◌, ◌∷◌, ◌≤◌, pos, length, drop};
 ghost use Rattle.answers.specs.Limits.{codeable};
 ghost use Rattle.idct.specs.Driver.{answer_of, block_after};

@@ -1,4 +1,6 @@
 // The single steps of the fast engine, as straight-line code calls them: rotations by three products, permutations.
+#![tactic(auto)]
+
 ghost use Rattle.std.specs.Prelude.{◌≡◌, ℕ, ◌+◌, ◌*◌, ◌^◌, ◌≤◌, ◌<◌, length, get_or};
 ghost use Rattle.whole.specs.Within.{Within};
 ghost use Rattle.primitives.specs.Brev.{Brev};

@@ -1,4 +1,6 @@
 // The fast inverse ADST: straight-line code over literal places.
+#![tactic(auto)]
+
 ghost use Rattle.std.specs.Prelude.{◌≡◌, ◌^◌};
 ghost use Rattle.whole.specs.Inner.{Ok};
 ghost use Rattle.steps.specs.Step.{Move, step};

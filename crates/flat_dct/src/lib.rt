@@ -1,4 +1,6 @@
 // The fast inverse DCT: straight-line code over literal places.
+#![tactic(auto)]
+
 ghost use Rattle.std.specs.Prelude.{◌≡◌, ◌^◌};
 ghost use Rattle.whole.specs.Steps.{run};
 ghost use Rattle.whole.specs.Inner.{Ok};

@@ -1,4 +1,6 @@
 // The 32-bit engine. The work stands in numbers of 16 bits, products in 32; the 64-bit block is read at the start and written at the end.
+#![tactic(auto)]
+
 ghost use Rattle.std.specs.Prelude.{◌≡◌, true, false, ◌≤◌, ltb, pos, nat_abs, length, get_or};
 ghost use Rattle.whole.specs.Lists.{fill};
 ghost use Rattle.whole.specs.Round.{Round2};

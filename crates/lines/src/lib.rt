@@ -1,6 +1,8 @@
 // A line of calls (oracle/README.md): decimal numbers with one space between, and lists with runs.
 // A place is an index into the line. Where something else stands than was asked for, the place behind it is BROKEN,
 // and everything read from there on is broken too.
+#![tactic(auto)]
+
 ghost use Rattle.std.specs.Prelude.{◌+◌, ◌≤◌, length};
 
 // A place past the end of every line.

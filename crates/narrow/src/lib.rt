@@ -1,5 +1,7 @@
 // Lines of 16-bit numbers: every number of T is an i16, every product and sum an i32. What is stored has to be of 16 bits; `tested` has the
 // form that tests it.
+#![tactic(auto)]
+
 ghost use Rattle.std.specs.Prelude.{◌≡◌, true, false, ◌<◌, pos, get_or};
 ghost use Rattle.whole.specs.Round.{Round2};
 ghost use Rattle.whole.specs.Within.{Within};

@@ -1,5 +1,7 @@
 // The inverse DCT of a line of 16-bit numbers, in pieces that are small enough for the compiler to inline them into the lines of rows and of columns alike:
 // only where a whole line is inlined do eight lines go side by side.
+#![tactic(auto)]
+
 ghost use Rattle.std.specs.Prelude.{◌≡◌, ◌*◌, ◌^◌, ◌≤◌};
 ghost use Rattle.whole.specs.Steps.{run};
 ghost use Rattle.whole.specs.Inner.{Ok};

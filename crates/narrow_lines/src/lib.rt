@@ -1,6 +1,8 @@
 // The rows and the columns of a block of 16-bit numbers that stays within them: no test on the way, and eight lines side by side, which the
 // compiler makes one line of eight-fold numbers. The block stands by strips of eight columns: eight columns are then loads side by side, and eight rows
 // loads eight numbers apart, for which there are instructions on both processors.
+#![tactic(auto)]
+
 ghost use Rattle.std.specs.Prelude.{◌≡◌, true, false, ℕ, ◌+◌, ◌*◌, ◌≤◌, ◌<◌, pos, nat_abs, length, get_or, set, replicate};
 ghost use Rattle.whole.specs.Lists.{tabulate, fill};
 ghost use Rattle.whole.specs.Inner.{times};

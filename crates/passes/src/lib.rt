@@ -1,4 +1,6 @@
 // Rows and columns of 8 by 8 and more. Sizes apart: their numbers are literals, so that the loops unroll.
+#![tactic(auto)]
+
 ghost use Rattle.std.specs.Prelude.{◌≡◌, false, ◌^◌, ◌≤◌, length};
 ghost use Rattle.whole.specs.Round.{Round2};
 ghost use Rattle.answers.specs.Sizes.{area};

@@ -1,3 +1,5 @@
+#![tactic(auto)]
+
 ghost use Rattle.std.specs.Prelude.{◌≡◌, ℕ, ◌+◌, ◌*◌, ◌^◌, ◌≤◌, ◌<◌, pos, ◌+ℤ◌, length, get_or};
 ghost use Rattle.whole.specs.Parts.{P};
 ghost use Rattle.whole.specs.Within.{Within};

@@ -1,4 +1,6 @@
 // Residuals of 16 bits added back into a plane, eight samples at a time: sums that stop at the ends of 16 bits, which are one instruction.
+#![tactic(auto)]
+
 ghost use Rattle.std.specs.Prelude.{◌≡◌, ℕ, min, ◌+◌, ◌-◌, ◌*◌, ◌/◌, ◌%◌, ◌≤◌, ◌<◌, pos, ◌+ℤ◌, length, get_or, replicate};
 ghost use Rattle.whole.specs.Lists.{fill};
 ghost use Rattle.whole.specs.Parts.{P, N};

@@ -178,8 +178,8 @@ unfolding roomy
 run_room s samples answers h = go (leb AREA_LIMIT (length samples)) (leb RECORD_LIMIT (length answers)) refl refl
   where
     go : (x y : Bool) → leb AREA_LIMIT (length samples) ≡ x → leb RECORD_LIMIT (length answers) ≡ y → W.Run s samples answers 1
-    go false y p q = W.plane-room (leb-false AREA_LIMIT (length samples) p)
-    go true false p q = W.answers-room (leb-false RECORD_LIMIT (length answers) q)
+    go false y p q = W.plane_room (leb-false AREA_LIMIT (length samples) p)
+    go true false p q = W.answers_room (leb-false RECORD_LIMIT (length answers) q)
     go true true p q = T.never (rw (p, q) at h)
 
 plane_test : (samples answers : List ℕ) → length samples < AREA_LIMIT → not (roomy samples answers) ≡ true
@@ -198,8 +198,8 @@ abbrev run_steps : List ℕ → List ℕ → List ℕ → List (ℕ × Bool)
 run_steps s samples answers = (1, not (roomy samples answers)) ∷ renumber suc (header_steps s)
 
 run_has : (s samples answers : List ℕ) (n : ℕ) → W.Run s samples answers n → Applies n (run_steps s samples answers)
-run_has s samples answers n (W.plane-room h) = here_if 1 _ _ (plane_test samples answers h)
-run_has s samples answers n (W.answers-room h) = here_if 1 _ _ (answers_test samples answers h)
+run_has s samples answers n (W.plane_room h) = here_if 1 _ _ (plane_test samples answers h)
+run_has s samples answers n (W.answers_room h) = here_if 1 _ _ (answers_test samples answers h)
 run_has s samples answers n (W.header {k = k} h) = there (later k (header_steps s) (header_has s k h))
 
 run_is : (b : Bool) (r : ℕ) → cond b r 6 ≡ cond (not b) 6 r

@@ -1,3 +1,5 @@
+#![tactic(auto)]
+
 ghost use Rattle.std.specs.Prelude.{false, ◌≡◌, min, ◌*◌, ◌^◌, ◌≤◌, pos, nat_abs};
 ghost use Rattle.std.specs.Int.Signed.{quot_z};
 ghost use Rattle.answers.specs.Bad.{bad_quantizer};

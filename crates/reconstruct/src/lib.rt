@@ -1,3 +1,5 @@
+#![tactic(auto)]
+
 ghost use Rattle.std.specs.Prelude.{true, false, ◌≡◌, ◌+◌, ◌*◌, ◌^◌, ◌≤◌, pos, length, get_or};
 ghost use Rattle.whole.specs.Lists.{tabulate};
 ghost use Rattle.whole.specs.Inner.{AllWithin};

@@ -1,4 +1,6 @@
 // Rows and columns by the recursive transforms, as the specification goes.
+#![tactic(auto)]
+
 ghost use Rattle.std.specs.Prelude.{◌≡◌, false, cond, ◌*◌, ◌^◌, ◌≤◌, ℕ, ◌+◌, ◌<◌, length};
 ghost use Rattle.answers.specs.Sizes.{area, side};
 ghost use Rattle.blocks.specs.Block.{rows, columns};

@@ -1,5 +1,7 @@
 // Kinds 22, 30 and 31 of oracle/README.md: a block reconstructed, a VBK file, and a block with a report beside it. Each call hands back the place up to which the line was as
 // expected, BROKEN where it was not.
+#![tactic(auto)]
+
 ghost use Rattle.std.specs.Prelude.{◌≡◌, ◌≤◌, length};
 
 use answers::{Answer, magnitude};

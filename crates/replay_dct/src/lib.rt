@@ -1,4 +1,5 @@
 // Kind 38 of oracle/README.md: a block through the forward DCT.
+#![tactic(auto)]
 
 // n and the block; the place up to which the line was as expected, BROKEN where it was not.
 pub fn forward_dct_2d(line: &[u8], at: usize, numbers: &mut [i64]) -> usize {

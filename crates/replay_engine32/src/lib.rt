@@ -1,4 +1,5 @@
 // Kind 37 of oracle/README.md: a block through the 32-bit engine.
+#![tactic(auto)]
 
 // n, type, lossless and the block; the place up to which the line was as expected, BROKEN where it was not.
 pub fn inverse_transform_2d_32(line: &[u8], at: usize, numbers: &mut [i64]) -> usize {

@@ -1,4 +1,6 @@
 // Kind 35 of oracle/README.md: a VBK file written. The call hands back the place up to which the line was as expected, BROKEN where it was not.
+#![tactic(auto)]
+
 ghost use Rattle.std.specs.Prelude.{◌≡◌, ◌≤◌, length};
 
 use answers::magnitude;

@@ -1,5 +1,7 @@
 // Kinds 32, 33 and 34 of oracle/README.md: the row summary of a block, one token replaced, and the driver with the number of its row transforms.
 // Each call hands back the place up to which the line was as expected, BROKEN where it was not.
+#![tactic(auto)]
+
 use answers::Answer;
 use lines::{BROKEN, Unsigned32};
 use quant::{AcQuant, DcQuant};

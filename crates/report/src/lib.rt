@@ -1,5 +1,7 @@
 // Reconstruction with a report beside it: for each of the four sizes and each class of magnitudes how many tokens there were, and the
 // sum of their magnitudes.
+#![tactic(auto)]
+
 ghost use Rattle.std.specs.Prelude.{◌≡◌, ◌||◌, ◌^◌, ◌<◌};
 ghost use Rattle.answers.specs.Answers.{number};
 ghost use Rattle.reconstruct.specs.Reconstruct.{answer_of};

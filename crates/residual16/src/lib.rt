@@ -1,4 +1,6 @@
 // The residual of tokens by 16-bit lines, where no number on the way needs more.
+#![tactic(auto)]
+
 ghost use Rattle.std.specs.Prelude.{◌≡◌, ℕ, ◌+◌, ◌-◌, ◌*◌, ◌^◌, ◌<◌, ◌≤◌, true, false, length, replicate, pos, slice_index_or, slice_set, unsigned_abs};
 ghost use Rattle.whole.specs.Lists.{fill};
 ghost use Rattle.whole.specs.Inner.{times};

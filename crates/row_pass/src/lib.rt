@@ -1,5 +1,7 @@
 // A line of a block through its transform, and the rows that a summary names, counted where they are transformed.
 // Sizes apart: their numbers are literals, so that the loops unroll.
+#![tactic(auto)]
+
 ghost use Rattle.std.specs.Prelude.{◌≡◌, ◌+◌, ◌^◌, ◌≤◌, ◌<◌, length};
 ghost use Rattle.blocks.specs.Block.{row, change_row};
 ghost use Rattle.blocks.specs.Inner.{FirstWithin, Safe};

@@ -1,4 +1,6 @@
 // A row of a summary as C is told it.
+#![tactic(auto)]
+
 ghost use Rattle.std.specs.Prelude.{◌≡◌, ◌≤◌};
 ghost use Rattle.rows_told.specs.Rows.{row_number};
 ghost use Rattle.rows_told.specs.Inner.{place_of};

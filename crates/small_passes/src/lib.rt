@@ -1,4 +1,6 @@
 // Rows and columns of 4 by 4: the numbers are literals, so that the loops unroll.
+#![tactic(auto)]
+
 ghost use Rattle.std.specs.Prelude.{◌≡◌, true, false, ◌^◌, ◌≤◌, length};
 ghost use Rattle.whole.specs.Round.{Round2};
 ghost use Rattle.blocks.specs.Block.{rows, columns};

@@ -1,5 +1,5 @@
 -- A number by its binary digits, the lowest first, as the machine's counts are stated: how many are set, the first, the last, and one digit's change.
-use mathlib.Core.Path.{◌≡◌, refl, sym, ap, ap₂, ◌∙◌}
+use mathlib.Core.Path.{◌≡◌, refl, sym, ap, ap₂, ◌∙◌, subst}
 use mathlib.Core.Bool.{Bool, true, false, cond}
 use Prim.Native.Nat.{ℕ, zero, suc, min, max, ◌+◌, ◌-◌, ◌*◌, ◌/◌, ◌%◌, ◌^◌, ◌≤◌, ◌<◌}
 use native.Mathlib.Nat as NatL
@@ -197,9 +197,10 @@ pub or_set : (p : ℕ → Bool) (i n j : ℕ) → j < n → bit_or (digits p i n
 unfolding digits
 or_set p i zero j h = absurd (omega arith)
 or_set p i (suc n) zero h =
-    let e : i + 0 ≡ i = omega arith in
-    rw (e, upd_here p i true, upd_above p i n true)
-    (or_pair (p i) (digits p (suc i) n) 1 0 (omega arith) ∙ rw (max_one (p i), or_zero_r (digits p (suc i) n)))
+    let e : i ≡ i + 0 = omega arith in
+    subst (λ (k : ℕ). bit_or (digits p i (suc n)) (2 ^ 0) ≡ digits (upd p k true) i (suc n)) e
+    (rw (upd_here p i true, upd_above p i n true)
+    (or_pair (p i) (digits p (suc i) n) 1 0 (omega arith) ∙ rw (max_one (p i), or_zero_r (digits p (suc i) n))))
 or_set p i (suc n) (suc j) h =
     let e : suc i + j ≡ i + suc j = omega arith in
     let w : 2 ^ suc j ≡ 0 + 2 * 2 ^ j = omega (arith, NatL.pow-suc 2 j) in
@@ -212,12 +213,13 @@ pub and_clear : (p : ℕ → Bool) (i n j : ℕ) → j < n → bit_and (digits p
 unfolding digits
 and_clear p i zero j h = absurd (omega arith)
 and_clear p i (suc n) zero h =
-    let e : i + 0 ≡ i = omega arith in
+    let e : i ≡ i + 0 = omega arith in
     let l = pow_pos n in
     let w : (2 ^ suc n - 1) - 1 ≡ 0 + 2 * (2 ^ n - 1) = omega (arith, NatL.pow-suc 2 n) in
-    rw (w, e, upd_here p i false, upd_above p i n false)
+    subst (λ (k : ℕ). bit_and (digits p i (suc n)) ((2 ^ suc n - 1) - 2 ^ 0) ≡ digits (upd p k false) i (suc n)) e
+    (rw (w, upd_here p i false, upd_above p i n false)
     (and_pair (p i) (digits p (suc i) n) 0 (2 ^ n - 1) (omega arith)
-    ∙ rw (min_none (p i), and_mask (digits p (suc i) n) n, NatL.mod-eq_of_lt (digits_lt p (suc i) n)))
+    ∙ rw (min_none (p i), and_mask (digits p (suc i) n) n, NatL.mod-eq_of_lt (digits_lt p (suc i) n))))
 and_clear p i (suc n) (suc j) h =
     let e : suc i + j ≡ i + suc j = omega arith in
     let l : 2 ^ suc j ≤ 2 ^ n = pow_mono (omega arith) in

@@ -1,6 +1,8 @@
 // The rows and the columns of a block of 16-bit numbers, line by line, by a written table of the steps of each transform. Every number that T is
 // given is tested to be of 16 bits; every product and sum is an i32. For the few blocks that a law does not show to stay within 16 bits: simple,
 // and not fast.
+#![tactic(auto)]
+
 ghost use Rattle.std.specs.Prelude.{◌≡◌, true, false, ℕ, ◌+◌, ◌*◌, ◌≤◌, ◌<◌, ◌^◌, T, pos, length, get_or};
 ghost use Rattle.whole.specs.Lists.{fill};
 ghost use Rattle.whole.specs.Inner.{AllWithin};

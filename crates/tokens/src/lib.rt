@@ -1,4 +1,6 @@
 // The checks of a reconstruction, and its tokens made coefficients.
+#![tactic(auto)]
+
 ghost use Rattle.std.specs.Prelude.{true, false, cond, ◌≡◌, ℕ, ◌+◌, ◌-◌, ◌*◌, ◌≤◌, ◌<◌, eqb, pos, nat_abs, length, get_or};
 ghost use Rattle.whole.specs.Lists.{fill};
 ghost use Rattle.answers.specs.Answers.{number};

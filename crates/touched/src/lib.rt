@@ -1,4 +1,6 @@
 // The touched count of a record of a VBK file.
+#![tactic(auto)]
+
 ghost use Rattle.std.specs.Prelude.{◌≡◌, ◌≤◌};
 ghost use Rattle.touched.specs.Touched.{touched_by};
 

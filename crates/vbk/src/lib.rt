@@ -1,4 +1,6 @@
 // A run over a VBK file.
+#![tactic(auto)]
+
 ghost use Rattle.std.specs.Prelude.{◌≡◌, ◌+◌, ◌*◌, ◌≤◌, ◌<◌, pos, true, length};
 ghost use Rattle.answers.specs.Answers.{number};
 ghost use Rattle.vbk_read.specs.Header.{plane_area, header_answer, fields_of, no_fields};

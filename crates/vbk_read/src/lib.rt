@@ -1,4 +1,6 @@
 // Reading a VBK file: the cursor, the header, the records, and the reader that keeps the file and the place together.
+#![tactic(auto)]
+
 ghost use Rattle.std.specs.Prelude.{◌≡◌, ◌+◌, ◌*◌, ◌≤◌, ◌<◌, length};
 ghost use Rattle.whole.specs.Lists.{fill};
 ghost use Rattle.answers.specs.Answers.{number};

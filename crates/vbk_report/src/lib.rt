@@ -1,4 +1,6 @@
 // A run over a VBK file with a report beside it: what `vbk::replay` does, and every token of a block that is done counted.
+#![tactic(auto)]
+
 ghost use Rattle.std.specs.Prelude.{◌≡◌, ◌≤◌, ◌<◌, true, length};
 ghost use Rattle.answers.specs.Answers.{number};
 ghost use Rattle.answers.specs.Limits.{FILE_LIMIT};

@@ -1,4 +1,6 @@
 // What blockrun prints, written into a lent buffer. Each function takes the place to write at and hands back the place past its text.
+#![tactic(auto)]
+
 ghost use Rattle.std.specs.Prelude.{◌≡◌, [], ◌∷◌, ◌+◌, ◌*◌, ◌≤◌, ◌<◌, length};
 ghost use Rattle.whole.specs.Steps.{each};
 ghost use Rattle.vbk_text.specs.Decimal.{decimal};

@@ -1,4 +1,6 @@
 // Writing a VBK file into a lent buffer. Everything is checked before the first byte is written.
+#![tactic(auto)]
+
 ghost use Rattle.std.specs.Prelude.{◌≡◌, false, ◌||◌, [], ◌∷◌, ◌+◌, ◌*◌, ◌≤◌, ◌<◌, ltb, length, get_or};
 ghost use Rattle.whole.specs.Steps.{each};
 ghost use Rattle.answers.specs.Answers.{number};

@@ -1,3 +1,5 @@
+#![tactic(auto)]
+
 ghost use Rattle.std.specs.Prelude.{◌≡◌, ℕ, ◌^◌, ◌≤◌};
 ghost use Rattle.steps.specs.Inner.{FourWithin};
 ghost use Rattle.wht.specs.Wht.{wht};

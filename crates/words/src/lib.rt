@@ -1,4 +1,6 @@
 // Numbers in a wider type, and a local of zeros: each once, for whoever needs it.
+#![tactic(auto)]
+
 ghost use Rattle.std.specs.Prelude.{◌≡◌, ◌<◌, pos, replicate};
 
 // A byte as two.

@@ -59,7 +59,7 @@ returns_5 c =
     let a = w.before.before.before.before.before.before.before.before.before.args in
     let l : 1 < lossless_at a.s.now a.at = omega (arith, lossless_is w.before.before.before.before) in
     more a.s.now a.at _ _ _ (omega arith) (whole w) (sym (rw (lt-ltb 1 (lossless_at a.s.now a.at) l)))
-    (c.no-head.ensures ∙ sym (rw (lt-ltb 1 (lossless_at a.s.now a.at) l)))
+    (c.no_head.ensures ∙ sym (rw (lt-ltb 1 (lossless_at a.s.now a.at) l)))
     (omega (arith, count_is w.before))
 
 returns_6 : tie.Need-returns-6

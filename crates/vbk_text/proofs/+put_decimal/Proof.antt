@@ -113,7 +113,7 @@ put_decimal_put_byte_requires_2 t c κs =
     let a = s.args in
     room_second (decimal (a.n / 10)) (c.digit2.result ∷ [])
     (room_as a.out.now a.at (digit_more a.n c.digit2.result c.before.before.before.before.before.before.if1.false c.digit2.ensures) s.requires.1)
-    c.before.before.before.before.put-decimal.ensures
+    c.before.before.before.before.put_decimal.ensures
 
 -- src/lib.rt:27:1
 put_decimal_same_length_2 : (t : ℕ) → put-decimal-lts.Need-same-length-2 (
@@ -125,7 +125,7 @@ put_decimal_same_length_2 : (t : ℕ) → put-decimal-lts.Need-same-length-2 (
   put-decimal.Post,
 ) (put_decimal_at t) put-decimal.Post
 put_decimal_same_length_2 t c =
-    put_length c.before.before.put-byte2.ensures ∙ put_length c.before.before.before.before.before.before.before.put-decimal.ensures
+    put_length c.before.before.put-byte2.ensures ∙ put_length c.before.before.before.before.before.before.before.put_decimal.ensures
 
 -- src/lib.rt:27:1
 put_decimal_returns_2 : (t : ℕ) → put-decimal-lts.Need-returns-2 (
@@ -139,7 +139,7 @@ put_decimal_returns_2 : (t : ℕ) → put-decimal-lts.Need-returns-2 (
 put_decimal_returns_2 t c =
     let d = c.before.before.before in
     put_as (sym (digit_more d.before.before.before.before.before.before.before.before.args.n d.digit2.result d.before.before.before.before.before.before.if1.false d.digit2.ensures))
-    (put_join d.before.before.before.before.put-decimal.ensures c.before.before.put-byte2.ensures)
+    (put_join d.before.before.before.before.put_decimal.ensures c.before.before.put-byte2.ensures)
 
 pub +put-decimal-spec : {M : Type 1} → statement M
 +put-decimal-spec = close μ-put-decimal λ t. put-decimal-lts.spec (

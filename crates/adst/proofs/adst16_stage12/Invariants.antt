@@ -1,0 +1,23 @@
+use mathlib.Core.Path.{◌≡◌}
+use Prim.Native.Nat.{◌≤◌, ◌-◌}
+use native.Mathlib.Omega.{arith}
+use mir.Syntax.{w64}
+use borrow.Author.Rules.{rules}
+use Rattle.whole.proofs.Signed.{loc, minus, fits, value}
+use Rattle.whole.specs.Steps.{run, each}
+use Rattle.whole.proofs.Steps.{each_more, ok_turn, ok_here, loops}
+use Rattle.steps.specs.Step.{step}
+use Rattle.adst.specs.Adst.{sixteen12}
+use Rattle.adst.proofs.adst16_stage12.Given as goal
+
+abbrev pub invariant-loop-i : goal.invariant-loop-i
+invariant-loop-i l = (l.i ≤ 2) × (l.t ≡ run step (each l.i (sixteen12 l.j)) l.initial.t)
+
+abbrev pub decreases-loop-i : goal.decreases-loop-i
+decreases-loop-i l = 2 - l.i
+
+abbrev pub invariant-loop-j : goal.invariant-loop-j
+invariant-loop-j l = (l.j ≤ 2) × (l.t ≡ run step (each l.j (λ j. each 2 (sixteen12 j))) l.initial.t)
+
+abbrev pub decreases-loop-j : goal.decreases-loop-j
+decreases-loop-j l = 2 - l.j

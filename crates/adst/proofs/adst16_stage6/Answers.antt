@@ -1,0 +1,24 @@
+-- `adst::adst16_stage6` meets its contract.
+use mathlib.Core.Path.{◌≡◌}
+use Prim.Native.Nat.{◌≤◌, ◌-◌}
+use native.Mathlib.Omega.{arith}
+use borrow.Author.Rules.{rules}
+use Rattle.whole.specs.Steps.{run, each}
+use Rattle.whole.proofs.Steps.{each_more, ok_turn, ok_here, loops}
+use Rattle.steps.specs.Step.{step}
+use Rattle.adst.specs.Adst.{sixteen6}
+use Rattle.adst.proofs.adst16_stage6.Goals as goal
+
+pub hadamard-requires : goal.hadamard-requires
+hadamard-requires c = ok_here (ok_turn sixteen6 4 c.requires c.loop-i.i (omega arith) c.loop-i.invariant.1)
+
+pub loop-i-preserved : goal.loop-i-preserved
+unfolding run step
+loop-i-preserved c =
+    (omega arith, each_more step sixteen6 c.loop-i.i _ c.loop-i.invariant.1 c.hadamard.ensures)
+
+pub loop-i-init : goal.loop-i-init
+loop-i-init c = search (rules, loops)
+
+pub returns : goal.returns
+returns c = search (rules, loops)

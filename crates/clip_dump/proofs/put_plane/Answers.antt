@@ -1,0 +1,43 @@
+use mathlib.Core.Path.{◌≡◌}
+use Prim.Native.Nat.{◌+◌, ◌-◌, ◌*◌, ◌≤◌}
+use native.Mathlib.Omega.{arith}
+use borrow.Author.Rules.{rules}
+use lib.ListN.{length}
+use Rattle.clip_dump.proofs.Whole.{row_there, one_more, all_rows}
+use Rattle.clip_dump.proofs.put_plane.Goals as goal
+
+pub overflow_mul-r : goal.overflow_mul-r
+overflow_mul-r c =
+    let a = c.args in
+    let f = row_there c.loop-r.r a.width a.height c.loop-r-test.true in
+    omega (arith, f)
+
+pub overflow_mul-r-in-loop-r : goal.overflow_mul-r-in-loop-r
+overflow_mul-r-in-loop-r c =
+    let a = c.args in
+    let f = row_there c.loop-r.r a.width a.height c.loop-r-test.true in
+    omega (arith, f)
+
+pub overflow_add-r : goal.overflow_add-r
+overflow_add-r c =
+    let a = c.args in
+    let f = row_there c.loop-r.r a.width a.height c.loop-r-test.true in
+    omega (arith, f)
+
+pub put_row-place-requires : goal.put_row-place-requires
+put_row-place-requires c =
+    let a = c.args in
+    let f = row_there c.loop-r.r a.width a.height c.loop-r-test.true in
+    omega (arith, f, c.loop-r.invariant.1.0, c.loop-r.invariant.1.1, c.requires.0, c.requires.1.0, c.requires.1.1)
+
+pub loop-r-preserved : goal.loop-r-preserved
+loop-r-preserved c =
+    let a = c.args in
+    let f = row_there c.loop-r.r a.width a.height c.loop-r-test.true in
+    omega (arith, f, one_more c.loop-r.r a.width, c.loop-r.invariant.1.0, c.loop-r.invariant.1.1, c.put_row-place.ensures.0, c.put_row-place.ensures.1, c.requires.0)
+
+pub returns : goal.returns
+returns c =
+    let a = c.args in
+    let l = c.loop-r in
+    omega (arith, all_rows l.r a.width a.height l.invariant.0 c.loop-r-test.false, l.invariant.1.0, l.invariant.1.1)

@@ -1,0 +1,18 @@
+use native.Mathlib.Omega.{arith}
+use mathlib.Core.Path.{ap}
+use mathlib.Core.Bool.{not}
+use borrow.Author.Tests.{ne_eqb}
+use Rattle.blocks.specs.Block.{only_dc}
+use borrow.Author.Rules.{rules}
+use Rattle.dc.proofs.only_dc.Goals as goal
+
+pub returns-then-tx_type-ne0 : goal.returns-then-tx_type-ne0
+unfolding only_dc
+returns-then-tx_type-ne0 c = rw (ne_eqb _ _ c.if-tx_type-ne0.true)
+
+pub returns : goal.returns
+unfolding only_dc
+returns c = rw c.if-tx_type-ne0.false (ap not c.any_live_first.ensures)
+
+pub any_live_first-requires : goal.any_live_first-requires
+any_live_first-requires c = (omega arith, omega arith)

@@ -1,0 +1,26 @@
+use mathlib.Core.Path.{◌≡◌}
+use Prim.Native.Nat.{◌≤◌, ◌-◌, ◌+◌, ◌*◌, ◌/◌}
+use native.Mathlib.Omega.{arith}
+use borrow.Author.Rules.{rules}
+use lib.IntN.{pos}
+use mir.Syntax.{w32}
+use mir.Val.{to_z}
+use mir.Facts.{to_z_pos}
+use Rattle.whole.specs.Steps.{run, each}
+use Rattle.whole.proofs.Steps.{each_more, ok_turn, ok_here, loops}
+use Rattle.steps.specs.Step.{step}
+use Rattle.dct.specs.Dct.{turn5a}
+use Rattle.dct.proofs.Dct.{quarter}
+use Rattle.dct.proofs.stage5a.Given as goal
+
+abbrev pub invariant-loop-j : goal.invariant-loop-j
+invariant-loop-j l = (l.j ≤ 2) × (l.t ≡ run step (each l.j (turn5a l.n l.n0 l.i)) l.initial.t)
+
+abbrev pub decreases-loop-j : goal.decreases-loop-j
+decreases-loop-j l = 2 - l.j
+
+abbrev pub invariant-loop-i : goal.invariant-loop-i
+invariant-loop-i l = (l.i ≤ l.i-end) × (l.t ≡ run step (each l.i (λ i. each 2 (turn5a l.n l.n0 i))) l.initial.t)
+
+abbrev pub decreases-loop-i : goal.decreases-loop-i
+decreases-loop-i l = l.i-end - l.i

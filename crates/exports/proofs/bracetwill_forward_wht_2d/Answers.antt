@@ -1,0 +1,8 @@
+use mathlib.Core.Path.{◌∙◌}
+use borrow.Author.Rules.{rules}
+use Rattle.exports.proofs.bracetwill_forward_wht_2d.Goals as goal
+
+pub returns : goal.returns
+returns c =
+    let e = c.forward_wht_2d-a.ensures in
+    record { answered = c.code.ensures ∙ e.answered; written = e.written }

@@ -1,0 +1,21 @@
+-- `flat_adst::input16` meets its contract: the table is the rule, by computation.
+use mathlib.Core.List.{List, [], ◌∷◌}
+use Prim.Native.Nat.{ℕ}
+use lib.Dec.{lit≤}
+use lib.Bits.{bit_xor}
+use borrow.Author.Rules.{rules}
+use Rattle.whole.specs.Lists.{fill, move}
+use Rattle.steps.specs.Step.{step}
+use Rattle.adst.specs.Adst.{adst_in}
+use Rattle.flat.proofs.Table.{places}
+use Rattle.flat_adst.proofs.input16.Goals as goal
+
+abbrev table : List ℕ
+table = 15 ∷ 0 ∷ 13 ∷ 2 ∷ 11 ∷ 4 ∷ 9 ∷ 6 ∷ 7 ∷ 8 ∷ 5 ∷ 10 ∷ 3 ∷ 12 ∷ 1 ∷ 14 ∷ []
+
+pub returns : goal.returns
+unfolding step move fill adst_in
+returns c = c.reorder.ensures
+
+pub reorder-requires : goal.reorder-requires
+reorder-requires c = (lit≤ tt, lit≤ tt, places table 0 16 tt)

@@ -1,0 +1,23 @@
+use mathlib.Core.Path.{◌≡◌, refl, sym, ap, ◌∙◌}
+use Prim.Native.Nat.{◌+◌, ◌*◌, ◌-◌, ◌^◌, ◌≤◌, ◌<◌}
+use native.Mathlib.Nat.{mul-le-mul}
+use native.Mathlib.Omega.{arith}
+use borrow.Author.Rules.{rules}
+use lib.ListN.{length}
+use Rattle.whole.specs.Inner.{times}
+use Rattle.whole.proofs.Loops.{times_none, times_more, times_done}
+use Rattle.answers.specs.Sizes.{side, area}
+use Rattle.blocks.specs.Inner.{change_line}
+use Rattle.blocks.proofs.Blocks.{rows_loop}
+use Rattle.blocks.proofs.Lines.{change_line_length}
+use Rattle.blocks.proofs.Places.{in_row}
+use Rattle.fwd_dct.specs.Inner.{line_of}
+use Rattle.fwd_dct.proofs.Passes.{row_kept}
+use Rattle.fwd_dct.proofs.rows.Given as goal
+
+-- after i lines
+abbrev pub invariant-loop-i : goal.invariant-loop-i
+invariant-loop-i l = (l.i ≤ l.n0) × (length l.block ≡ length l.initial.block) × (l.block ≡ times l.i (λ i. change_line (line_of l.n) (λ z. z) (i * side l.n) 1 (side l.n)) l.initial.block)
+
+abbrev pub decreases-loop-i : goal.decreases-loop-i
+decreases-loop-i l = l.n0 - l.i

@@ -1,0 +1,20 @@
+use mathlib.Core.Path.{◌≡◌, ap, ◌∙◌}
+use Prim.Native.Nat.{◌*◌, ◌-◌, ◌≤◌}
+use native.Mathlib.Omega.{arith}
+use borrow.Author.Rules.{rules}
+use lib.ListN.{length}
+use Rattle.whole.specs.Inner.{times}
+use Rattle.whole.proofs.Loops.{times_none, times_more, times_done}
+use Rattle.blocks.specs.Inner.{change_line}
+use Rattle.blocks.proofs.Blocks.{rows_loop}
+use Rattle.blocks.proofs.Lines.{change_line_length}
+use Rattle.wht.specs.Wht.{wht}
+use Rattle.fwd_transform.proofs.Wht.{row_fine}
+use Rattle.fwd_transform.proofs.wht_rows.Given as goal
+
+-- after i rows
+abbrev pub invariant-loop-i : goal.invariant-loop-i
+invariant-loop-i l = (l.i ≤ 4) × (length l.block ≡ 16) × (l.block ≡ times l.i (λ i. change_line (wht 0) (λ z. z) (i * 4) 1 4) l.initial.block)
+
+abbrev pub decreases-loop-i : goal.decreases-loop-i
+decreases-loop-i l = 4 - l.i

@@ -1,0 +1,10 @@
+-- `narrow_adst::place` meets its contract.
+use mathlib.Core.Path.{◌≡◌}
+use borrow.Author.Rules.{rules}
+use Rattle.narrow_adst.proofs.place.Goals as goal
+
+pub returns-then-out : goal.returns-then-out
+returns-then-out c = rw c.if-out.true c.output_place.ensures
+
+pub returns : goal.returns
+returns c = rw c.if-out.false c.input_place.ensures

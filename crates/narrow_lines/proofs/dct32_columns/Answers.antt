@@ -1,0 +1,145 @@
+-- `narrow_lines::dct32_columns` meets its contract: the calls of a turn are the pieces of the transform, and a turn is one line.
+use mathlib.Core.Path.{◌≡◌, refl}
+use mathlib.Core.Bool.{true}
+use mathlib.Core.List.{[]}
+use Prim.Native.Nat.{ℕ, ◌+◌, ◌*◌, ◌-◌, ◌≤◌, ◌<◌}
+use native.Mathlib.Omega.{arith}
+use lib.Dec.{lit<, lit≤}
+use borrow.Author.Rules.{rules}
+use Rattle.steps.specs.Step.{step}
+use Rattle.blocks.specs.Inverse.{Dct, apply}
+use Rattle.flat.proofs.Straight.{call, next, alone}
+use Rattle.narrow.specs.Tile.{raster}
+use Rattle.narrow_dct.specs.Inner.{pieces32}
+use Rattle.narrow_dct.proofs.Rows.{Called, cut32, dct_begin, dct_end}
+use Rattle.narrow_lines.specs.Inner.{Holds, strip}
+use Rattle.narrow_lines.proofs.Strips.{strip_none, strip_done, strip_fine, strip_next}
+use Rattle.narrow_lines.proofs.dct32_columns.Lts as lts
+use Rattle.narrow_lines.proofs.dct32_columns.Tie as tie
+use Rattle.narrow_lines.proofs.dct32_columns.Reads as reads
+use Rattle.narrow_lines.proofs.dct32_columns.Goals as goal
+
+-- the place behind a call, with what was known there
+abbrev After-level2 : Type 0
+After-level2 = lts.After-level2 tie.the-claims reads.Pre reads.Post goal.the-invariant-loop-j goal.the-decreases-loop-j
+
+-- the place behind a call, with what was known there
+abbrev After-level3 : Type 0
+After-level3 = lts.After-level3 tie.the-claims reads.Pre reads.Post goal.the-invariant-loop-j goal.the-decreases-loop-j
+
+-- the place behind a call, with what was known there
+abbrev After-level4_first : Type 0
+After-level4_first = lts.After-level4_first tie.the-claims reads.Pre reads.Post goal.the-invariant-loop-j goal.the-decreases-loop-j
+
+-- the place behind a call, with what was known there
+abbrev After-level4_last : Type 0
+After-level4_last = lts.After-level4_last tie.the-claims reads.Pre reads.Post goal.the-invariant-loop-j goal.the-decreases-loop-j
+
+-- the place behind a call, with what was known there
+abbrev After-level5_first : Type 0
+After-level5_first = lts.After-level5_first tie.the-claims reads.Pre reads.Post goal.the-invariant-loop-j goal.the-decreases-loop-j
+
+-- the place behind a call, with what was known there
+abbrev After-level5_last : Type 0
+After-level5_last = lts.After-level5_last tie.the-claims reads.Pre reads.Post goal.the-invariant-loop-j goal.the-decreases-loop-j
+
+-- the place behind a call, with what was known there
+abbrev After-level5_next : Type 0
+After-level5_next = lts.After-level5_next tie.the-claims reads.Pre reads.Post goal.the-invariant-loop-j goal.the-decreases-loop-j
+
+-- the place behind a call, with what was known there
+abbrev After-level5_sums : Type 0
+After-level5_sums = lts.After-level5_sums tie.the-claims reads.Pre reads.Post goal.the-invariant-loop-j goal.the-decreases-loop-j
+
+-- the place behind a call, with what was known there
+abbrev After-level5_turns : Type 0
+After-level5_turns = lts.After-level5_turns tie.the-claims reads.Pre reads.Post goal.the-invariant-loop-j goal.the-decreases-loop-j
+
+-- the place behind a call, with what was known there
+abbrev After-load : Type 0
+After-load = lts.After-load tie.the-claims reads.Pre reads.Post goal.the-invariant-loop-j goal.the-decreases-loop-j
+
+-- the place behind a call, with what was known there
+abbrev After-permute : Type 0
+After-permute = lts.After-permute tie.the-claims reads.Pre reads.Post goal.the-invariant-loop-j goal.the-decreases-loop-j
+
+-- after k pieces
+abbrev At : ℕ → Type 0
+At k = Called pieces32 k
+
+abbrev at0 : After-load → At 0
+at0 c =
+    let k = strip_fine true Dct 5 (8 * c.args.q) c.loop-j.j (raster 32 c.args.z.now) c.loop-j.invariant.1 c.load.ensures (lit≤ tt) c.requires.2 c.loop-j-test.true c.requires.0 in
+    dct_begin cut32 c.load.new.t k.0 k.1
+
+abbrev at1 : After-permute → At 1
+at1 c = next [] (at0 c.before.before) (lit< tt) (alone step c.permute.ensures)
+
+abbrev at2 : After-level2 → At 2
+at2 c = next [] (at1 c.before.before) (lit< tt) c.level2.ensures
+
+abbrev at3 : After-level3 → At 3
+at3 c = next [] (at2 c.before.before) (lit< tt) c.level3.ensures
+
+abbrev at4 : After-level4_first → At 4
+at4 c = next [] (at3 c.before.before) (lit< tt) c.level4_first.ensures
+
+abbrev at5 : After-level4_last → At 5
+at5 c = next [] (at4 c.before.before) (lit< tt) c.level4_last.ensures
+
+abbrev at6 : After-level5_turns → At 6
+at6 c = next [] (at5 c.before.before) (lit< tt) c.level5_turns.ensures
+
+abbrev at7 : After-level5_first → At 7
+at7 c = next [] (at6 c.before.before) (lit< tt) c.level5_first.ensures
+
+abbrev at8 : After-level5_next → At 8
+at8 c = next [] (at7 c.before.before) (lit< tt) c.level5_next.ensures
+
+abbrev at9 : After-level5_last → At 9
+at9 c = next [] (at8 c.before.before) (lit< tt) c.level5_last.ensures
+
+abbrev at10 : After-level5_sums → At 10
+at10 c = next [] (at9 c.before.before) (lit< tt) c.level5_sums.ensures
+
+pub loop-j-preserved : goal.loop-j-preserved
+unfolding apply
+loop-j-preserved c =
+    (omega (arith, c.loop-j-test.true), strip_next true Dct 5 (8 * c.args.q) c.loop-j.j (raster 32 c.args.z.now) c.loop-j.invariant.1 c.load.ensures (dct_end cut32 (at10 c.before.before.before) refl) c.store.ensures)
+
+pub returns : goal.returns
+returns c =
+    strip_done true Dct 5 (8 * c.args.q) c.loop-j.j (raster 32 c.args.z.now) c.loop-j.invariant.0 c.loop-j-test.false c.loop-j.invariant.1
+
+pub loop-j-init : goal.loop-j-init
+loop-j-init c = (omega arith, strip_none true Dct 5 (8 * c.args.q) c.requires.1)
+
+pub permute-requires : goal.permute-requires
+permute-requires c = (lit≤ tt, refl)
+
+pub level2-requires : goal.level2-requires
+level2-requires c = call [] (at1 c.before) (lit< tt)
+
+pub level3-requires : goal.level3-requires
+level3-requires c = call [] (at2 c.before) (lit< tt)
+
+pub level4_first-requires : goal.level4_first-requires
+level4_first-requires c = call [] (at3 c.before) (lit< tt)
+
+pub level4_last-requires : goal.level4_last-requires
+level4_last-requires c = call [] (at4 c.before) (lit< tt)
+
+pub level5_turns-requires : goal.level5_turns-requires
+level5_turns-requires c = call [] (at5 c.before) (lit< tt)
+
+pub level5_first-requires : goal.level5_first-requires
+level5_first-requires c = call [] (at6 c.before) (lit< tt)
+
+pub level5_next-requires : goal.level5_next-requires
+level5_next-requires c = call [] (at7 c.before) (lit< tt)
+
+pub level5_last-requires : goal.level5_last-requires
+level5_last-requires c = call [] (at8 c.before) (lit< tt)
+
+pub level5_sums-requires : goal.level5_sums-requires
+level5_sums-requires c = call [] (at9 c.before) (lit< tt)

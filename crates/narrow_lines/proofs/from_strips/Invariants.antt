@@ -1,0 +1,28 @@
+use mathlib.Core.Path.{◌≡◌}
+use mathlib.Core.List.{List}
+use Prim.Native.Nat.{ℕ, ◌+◌, ◌*◌, ◌/◌, ◌-◌, ◌≤◌, ◌<◌}
+use native.Mathlib.Nat.{mul-zero, mul-add, mul-one}
+use native.Mathlib.Omega.{arith}
+use lib.IntN.{ℤ, pos}
+use lib.ListN.{get_or}
+use borrow.Author.Rules.{rules}
+use Rattle.whole.specs.Lists.{fill}
+use Rattle.whole.proofs.Lists.{fill_none}
+use Rattle.answers.specs.Sizes.{side}
+use Rattle.narrow.specs.Tile.{raster}
+use Rattle.narrow_lines.proofs.Strips.{all_eights}
+use Rattle.narrow_lines.proofs.Orders.{octet_lt, back_next}
+use Rattle.narrow_lines.proofs.from_strips.Given as goal
+
+abbrev pub invariant-loop-q : goal.invariant-loop-q
+invariant-loop-q l =
+    (l.q ≤ l.q-end) × ((u : List ℤ) → l.initial.s ≡ fill (l.n0 * l.i) (λ k. get_or (raster l.n0 l.z) k (pos 0)) u → l.s ≡ fill (l.n0 * l.i + 8 * l.q) (λ k. get_or (raster l.n0 l.z) k (pos 0)) u)
+
+abbrev pub decreases-loop-q : goal.decreases-loop-q
+decreases-loop-q l = l.q-end - l.q
+
+abbrev pub invariant-loop-i : goal.invariant-loop-i
+invariant-loop-i l = (l.i ≤ l.n0) × (l.s ≡ fill (l.n0 * l.i) (λ k. get_or (raster l.n0 l.z) k (pos 0)) l.initial.s)
+
+abbrev pub decreases-loop-i : goal.decreases-loop-i
+decreases-loop-i l = l.n0 - l.i

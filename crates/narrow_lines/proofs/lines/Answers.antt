@@ -1,0 +1,35 @@
+-- `narrow_lines::lines` meets its contract.
+use mathlib.Core.Path.{◌≡◌}
+use Prim.Native.Nat.{ℕ, ◌+◌, ◌*◌, ◌-◌, ◌≤◌, ◌<◌}
+use native.Mathlib.Omega.{arith}
+use borrow.Author.Rules.{rules}
+use Rattle.answers.specs.Sizes.{side}
+use Rattle.blocks.specs.Inverse.{lossy}
+use Rattle.blocks.proofs.Inverse.{side_most}
+use Rattle.narrow.specs.Tile.{raster}
+use Rattle.narrow_lines.specs.Inner.{Holds, first}
+use Rattle.narrow_lines.proofs.Strips.{first_none, first_keeps, first_next, first_done}
+use Rattle.narrow_lines.proofs.lines.Goals as goal
+
+pub eight-requires : goal.eight-requires
+eight-requires c =
+    let l : 8 * c.loop-q.q + 8 ≤ side c.args.n = omega (arith, c.requires.3, c.loop-q-test.true) in (
+      c.requires.0,
+      c.requires.1,
+      c.requires.2,
+      l,
+      c.loop-q.invariant.1.long,
+      first_keeps c.args.down (lossy c.args.use_dct) c.args.n c.loop-q.q (raster (side c.args.n) c.args.z.now) c.loop-q.invariant.1 l
+          (λ i h. c.requires.5 c (omega (arith, c.loop-q-test.true))),
+    )
+
+pub loop-q-preserved : goal.loop-q-preserved
+loop-q-preserved c =
+    (omega (arith, c.loop-q-test.true), first_next c.args.down (lossy c.args.use_dct) c.args.n c.loop-q.q (raster (side c.args.n) c.args.z.now) c.loop-q.invariant.1 c.eight.ensures)
+
+pub returns : goal.returns
+returns c =
+    first_done c.args.down (lossy c.args.use_dct) c.args.n c.loop-q.q (raster (side c.args.n) c.args.z.now) c.loop-q.invariant.1 c.args.strips c.loop-q.invariant.0 c.loop-q-test.false
+
+pub loop-q-init : goal.loop-q-init
+loop-q-init c = (omega arith, first_none c.args.down (lossy c.args.use_dct) c.args.n c.requires.4)

@@ -1,0 +1,17 @@
+use mathlib.Core.Path.{◌≡◌}
+use Prim.Native.Nat.{ℕ, ◌+◌, ◌*◌, ◌-◌, ◌≤◌, ◌<◌}
+use native.Mathlib.Omega.{arith}
+use borrow.Author.Rules.{rules}
+use Rattle.answers.specs.Sizes.{side}
+use Rattle.blocks.specs.Inverse.{lossy}
+use Rattle.blocks.proofs.Inverse.{side_most}
+use Rattle.narrow.specs.Tile.{raster}
+use Rattle.narrow_lines.specs.Inner.{Holds, first}
+use Rattle.narrow_lines.proofs.Strips.{first_none, first_keeps, first_next, first_done}
+use Rattle.narrow_lines.proofs.lines.Given as goal
+
+abbrev pub invariant-loop-q : goal.invariant-loop-q
+invariant-loop-q l = (l.q ≤ l.strips) × Holds (side l.n) (first l.down (lossy l.use_dct) l.n (8 * l.q) (raster (side l.n) l.initial.z)) l.z
+
+abbrev pub decreases-loop-q : goal.decreases-loop-q
+decreases-loop-q l = l.strips - l.q

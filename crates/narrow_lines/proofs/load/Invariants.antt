@@ -1,0 +1,29 @@
+use mathlib.Core.Path.{◌≡◌, ap}
+use mathlib.Core.List.{List}
+use Prim.Native.Nat.{ℕ, ◌≤◌, ◌<◌, ◌-◌, ◌+◌, ◌*◌, ◌/◌}
+use native.Mathlib.Omega.{arith}
+use lib.IntN.{ℤ, pos}
+use lib.ListN.{get_or}
+use mir.Syntax.{w16}
+use mir.Facts.{to_z-of_z}
+use borrow.Author.Rules.{rules}
+use Rattle.whole.specs.Lists.{fill}
+use Rattle.whole.proofs.Lists.{fill_none, fill_more}
+use Rattle.blocks.specs.Block.{line}
+use Rattle.narrow.specs.Tile.{raster}
+use Rattle.narrow_lines.specs.Inner.{start, gap, spot}
+use Rattle.narrow_lines.proofs.Tiles.{spot_lt, spot_at}
+use Rattle.narrow_lines.proofs.load.Given as goal
+
+abbrev pub invariant-loop-b : goal.invariant-loop-b
+invariant-loop-b l =
+    (l.b ≤ 8) × ((u : List ℤ) → l.initial.t ≡ fill (8 * l.a) (λ k. get_or (raster l.n0 l.z) (start l.down l.n0 l.i + k * gap l.down l.n0) (pos 0)) u → l.t ≡ fill (8 * l.a + l.b) (λ k. get_or (raster l.n0 l.z) (start l.down l.n0 l.i + k * gap l.down l.n0) (pos 0)) u)
+
+abbrev pub decreases-loop-b : goal.decreases-loop-b
+decreases-loop-b l = 8 - l.b
+
+abbrev pub invariant-loop-a : goal.invariant-loop-a
+invariant-loop-a l = (l.a ≤ l.a-end) × (l.t ≡ fill (8 * l.a) (λ k. get_or (raster l.n0 l.z) (start l.down l.n0 l.i + k * gap l.down l.n0) (pos 0)) l.initial.t)
+
+abbrev pub decreases-loop-a : goal.decreases-loop-a
+decreases-loop-a l = l.a-end - l.a

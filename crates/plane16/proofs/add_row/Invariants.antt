@@ -1,0 +1,20 @@
+use mathlib.Core.Path.{◌≡◌, refl, sym, ap, ◌∙◌}
+use Prim.Native.Nat.{ℕ, ◌+◌, ◌-◌, ◌*◌, ◌/◌, ◌≤◌, ◌<◌}
+use native.Mathlib.Nat as NatL
+use native.Mathlib.Omega.{arith}
+use lib.IntN.{ℤ, pos}
+use lib.ListN.{length, get_or}
+use borrow.Author.Rules.{rules}
+use Rattle.narrow.specs.Tile.{place}
+use Rattle.plane.specs.Inner.{row_after}
+use Rattle.plane.proofs.Row.{row_none}
+use Rattle.plane16.proofs.Ends.{row_join, place_strip, strip_end, strip_most}
+use Rattle.plane16.proofs.add_row.Given as goal
+
+abbrev pub invariant-loop-q : goal.invariant-loop-q
+invariant-loop-q l =
+    (l.q ≤ l.eights) × (length l.samples ≡ length l.initial.samples)
+    × ((k : ℕ) → get_or l.samples k 0 ≡ row_after l.top (λ j. get_or l.z (place l.n0 l.i j) (pos 0)) l.at (8 * l.q) l.initial.samples k)
+
+abbrev pub decreases-loop-q : goal.decreases-loop-q
+decreases-loop-q l = l.eights - l.q

@@ -1,0 +1,29 @@
+-- `reconstruct::add_short` meets its contract.
+use mathlib.Core.Path.{◌≡◌, ◌∙◌}
+use Prim.Native.Nat.{◌≤◌}
+use native.Mathlib.Omega.{arith}
+use borrow.Author.Rules.{rules}
+use borrow.Author.Tests.{not-false}
+use Rattle.residual16.specs.Inner.{Served}
+use Rattle.tokens.proofs.Sizes.{side_most}
+use Rattle.reconstruct.proofs.Residual.{short_added}
+use Rattle.reconstruct.proofs.add_short.Goals as goal
+use Rattle.reconstruct.proofs.add_short.Goals.{Else-not-residual}
+
+-- the residual stands in the block
+served : (e : Else-not-residual) → let a = e.args in Served a.size a.dc_quant a.ac_quant a.tx_type a.tokens.now e.residual.new.z
+served e = e.residual.ensures (not-false e.residual.result e.if-not-residual.false)
+
+pub add_back-requires : goal.add_back-requires
+add_back-requires c =
+    (c.requires.0, omega (arith, c.requires.2, side_most c.args.size (omega (arith, c.requires.1.possible.most))))
+
+pub returns : goal.returns
+returns c =
+    let a = c.args in
+    let t = served c.before.before.before.before.before in
+    record {
+      small = record { small = λ k h. omega (arith, t.small k h) };
+      written = rw c.requires.2 at c.add_back.ensures
+          ∙ short_added a.plane a.top a.x a.y a.size a.dc_quant a.ac_quant a.tx_type a.tokens.now c.residual.new.z a.samples.now c.requires.0 t.made;
+    }

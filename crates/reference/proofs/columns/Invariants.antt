@@ -1,0 +1,15 @@
+use mathlib.Core.Bool.{cond}
+use Prim.Native.Nat.{◌-◌, ◌^◌}
+use native.Mathlib.Omega.{arith}
+use borrow.Author.Rules.{rules}
+use Rattle.blocks.specs.Block.{columns}
+use Rattle.blocks.specs.Inverse.{Wht, apply, lossy, column_pass, rounding}
+use Rattle.blocks.proofs.Passes.{Valid, column_valid, adst_side}
+use Rattle.blocks.proofs.Turns.{Job, columns_job, Turn, turn_none, turn_inside, turn_safe, turn_grown, turn_next, turn_done}
+use Rattle.reference.proofs.columns.Given as goal
+
+abbrev pub invariant-loop-j : goal.invariant-loop-j
+invariant-loop-j l = Turn (cond l.lossless (Wht 0) (lossy l.col_dct)) l.n l.n0 (rounding l.n l.lossless) (λ j. j) l.n0 l.initial.block l.block l.t l.j
+
+abbrev pub decreases-loop-j : goal.decreases-loop-j
+decreases-loop-j l = l.n0 - l.j

@@ -1,0 +1,11 @@
+use Rattle.std.proofs.Common.{◌≡◌, ℕ, ◌+◌, ◌-◌, ◌<◌, ◌≤◌, refl, arith, w16, to_z, rules}
+use mir.ValLaws.{to_z-of_z}
+use Rattle.whole.specs.Lists.{fill}
+use Rattle.whole.proofs.Lists.{fill_none, fill_more, fill_done}
+use Rattle.residual16.proofs.flat.Given as goal
+
+abbrev pub invariant-loop-k : goal.invariant-loop-k
+invariant-loop-k l = (l.k ≤ l.count) × (l.z ≡ fill l.k (λ i. to_z w16 l.v) l.initial.z)
+
+abbrev pub decreases-loop-k : goal.decreases-loop-k
+decreases-loop-k l = l.count - l.k

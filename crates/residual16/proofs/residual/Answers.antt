@@ -1,0 +1,107 @@
+-- `residual16::residual` meets its contract.
+use Rattle.std.proofs.Common.{◌≡◌, ℕ, ◌+◌, ◌-◌, ◌*◌, ◌<◌, ◌≤◌, true, false, List, length, get_or, set, ℤ, pos, nat_abs, sym, refl, ap, ◌∙◌, arith, w16, w64, rules}
+use borrow.Author.Tests.{not-false}
+use mir.ValLaws.{to_z-of_z}
+use Rattle.whole.proofs.Signed.{rd, rd_ok}
+use Rattle.answers.specs.Sizes.{side, area}
+use Rattle.quant.specs.Places.{quantizer_at, dequant_all}
+use Rattle.quant.specs.Token.{dq_denom, dequant}
+use Rattle.blocks.proofs.Inverse.{side_most}
+use Rattle.narrow.specs.Tile.{raster}
+use Rattle.residual16.specs.Inner.{Scanned, Short, Lent}
+use Rattle.residual16.proofs.Numbers.{never}
+use Rattle.residual16.proofs.Block.{size_most, some, small, bounded, short, few_coefs, dead_all, served, served_flat}
+use Rattle.residual16.proofs.residual.Goals as goal
+use Rattle.residual16.proofs.residual.Goals.{After-magnitude-first, Else-not-enough, Start}
+
+module _ (s : Start) where
+  abbrev lent : Lent s.args.size s.args.dc_quant s.args.ac_quant s.args.tx_type s.args.tokens.now
+  lent = s.requires.1
+
+  first_in : 0 < length s.args.tokens.now
+  first_in = rw lent.all (some s.args.size s.args.dc_quant s.args.ac_quant s.args.tx_type s.args.tokens.now lent)
+
+-- the scan, and the first magnitude
+module _ (c : After-magnitude-first) where
+  abbrev all : ℕ
+  all = c.weigh-w.result.all
+
+  abbrev added : ℕ
+  added = c.weigh-w.result.sum
+
+  abbrev strips : ℕ
+  strips = c.weigh-w.result.strips
+
+  abbrev scanned : Scanned (c.args.size + 2) c.args.tokens.now all added strips
+  scanned = c.weigh-w.ensures
+
+  first_is : c.magnitude-first.result ≡ nat_abs (get_or c.args.tokens.now 0 (pos 0))
+  first_is = c.magnitude-first.ensures ∙ ap nat_abs (to_z-of_z w64 (get_or c.args.tokens.now 0 (pos 0)) (record { sfits = c.magnitude-arg-1.given }))
+
+pub enough-requires : goal.enough-requires
+enough-requires c =
+    let a = c.args in
+    ((lent c.before.before.before).dc_ok, (lent c.before.before.before).ac_ok, λ h. rw (first_is c) (bounded a.size a.dc_quant a.ac_quant a.tx_type a.tokens.now (lent c.before.before.before) (all c) (added c) (strips c) (scanned c) h))
+
+-- 16 bits are enough
+module _ (e : Else-not-enough) where
+  told : (all e.before.before ≤ 16383)
+      × (nat_abs (get_or e.args.tokens.now 0 (pos 0)) * nat_abs e.args.dc_quant.0 + (added e.before.before - nat_abs (get_or e.args.tokens.now 0 (pos 0))) * nat_abs e.args.ac_quant.0 ≤ 31883 * dq_denom e.args.size)
+  told = rw (first_is e.before.before) at (e.enough.ensures (not-false e.enough.result e.if-not-enough.false))
+
+  shorts : (k : ℕ) → k < length e.args.tokens.now → Short e.args.size (quantizer_at e.args.dc_quant e.args.ac_quant k) (get_or e.args.tokens.now k (pos 0))
+  shorts = let a = e.args in short a.size a.dc_quant a.ac_quant a.tx_type a.tokens.now (lent e.before.before.before.before.before) (all e.before.before) (added e.before.before) (strips e.before.before) (scanned e.before.before) told.0 told.1
+
+  dc_short : Short e.args.size e.args.dc_quant.0 (get_or e.args.tokens.now 0 (pos 0))
+  unfolding quantizer_at
+  dc_short = shorts 0 (first_in e.before.before.before.before.before)
+
+pub dequant16-requires : goal.dequant16-requires
+dequant16-requires c =
+    rw (to_z-of_z w64 (get_or c.args.tokens.now 0 (pos 0)) (record { sfits = c.dequant16-arg-1.given })) ((lent c.before.before.before.before.before.before.before.before.before).dc_ok, (dc_short c.before.before.before.before).0, (dc_short c.before.before.before.before).1)
+
+pub returns-then-tx_type-eq0 : goal.returns-then-tx_type-eq0
+returns-then-tx_type-eq0 c =
+    let a = c.args in
+    let t = to_z-of_z w64 (get_or a.tokens.now 0 (pos 0)) (record { sfits = c.dequant16-arg-1.given }) in
+    let v : rd w16 c.dequant16.result ≡ dequant a.size a.dc_quant.0 (get_or a.tokens.now 0 (pos 0)) = rd_ok w16 {z = c.dequant16.result} c.dequant16.type_inv ∙ rw t at c.dequant16.ensures in
+    λ h. served_flat a.size a.dc_quant a.ac_quant a.tx_type a.tokens.now (lent c.before.before.before.before.before.before.before.before.before.before.before.before) (all c.before.before.before.before.before.before.before.before.before) (added c.before.before.before.before.before.before.before.before.before) (strips c.before.before.before.before.before.before.before.before.before) (scanned c.before.before.before.before.before.before.before.before.before) (told c.before.before.before.before.before.before.before).0 (told c.before.before.before.before.before.before.before).1
+    (c.if-w-first.true ∙ first_is c.before.before.before.before.before.before.before.before.before) c.if-tx_type-eq0.true
+    a.z.now (set a.z.now 0 (rd w16 c.dequant16.result)) c.residual_dc.new.z c.requires.0 (ap (set a.z.now 0) v) c.residual_dc.ensures
+
+pub dequantize-requires : goal.dequantize-requires
+dequantize-requires c =
+    let w = scanned c.before.before.before.before.before.before in
+    record { z_value = (c.requires.0, (lent c.before.before.before.before.before.before.before.before.before).larger, omega (arith, (lent c.before.before.before.before.before.before.before.before.before).possible.most), (lent c.before.before.before.before.before.before.before.before.before).all, omega (arith, w.least), w.most, w.dead); dc_quant_value = ((lent c.before.before.before.before.before.before.before.before.before).dc_ok, (lent c.before.before.before.before.before.before.before.before.before).ac_ok, shorts c.before.before.before.before) }
+
+pub passes-requires : goal.passes-requires
+passes-requires c =
+    let a = c.args in
+    let w = scanned c.before.before.before.before.before.before.before.before in
+    let d = c.dequantize.ensures in
+    rw d.1 (
+      omega (arith, (lent c.before.before.before.before.before.before.before.before.before.before.before).larger),
+      (lent c.before.before.before.before.before.before.before.before.before.before.before).possible,
+      d.0,
+      few_coefs a.size a.dc_quant a.ac_quant a.tx_type a.tokens.now (lent c.before.before.before.before.before.before.before.before.before.before.before) (all c.before.before.before.before.before.before.before.before) (added c.before.before.before.before.before.before.before.before) (strips c.before.before.before.before.before.before.before.before) w (told c.before.before.before.before.before.before).0 (told c.before.before.before.before.before.before).1,
+      w.most,
+      dead_all a.size a.dc_quant a.ac_quant a.tx_type a.tokens.now (lent c.before.before.before.before.before.before.before.before.before.before.before) _ w.dead,
+    )
+
+pub returns : goal.returns
+returns c =
+    let a = c.args in
+    λ h. served a.size a.dc_quant a.ac_quant a.tx_type a.tokens.now (lent c.before.before.before.before.before.before.before.before.before.before.before.before) (all c.before.before.before.before.before.before.before.before.before) (added c.before.before.before.before.before.before.before.before.before) (strips c.before.before.before.before.before.before.before.before.before) (scanned c.before.before.before.before.before.before.before.before.before) (told c.before.before.before.before.before.before.before).0 (told c.before.before.before.before.before.before.before).1
+    c.dequantize.new.z c.passes.new.z c.dequantize.ensures.1 c.passes.ensures
+
+pub bounds-tokens-0 : goal.bounds-tokens-0
+bounds-tokens-0 c = first_in c.before
+
+pub returns-then-not-enough : goal.returns-then-not-enough
+returns-then-not-enough c h = never h
+
+pub bounds-tokens-0-then-tx_type-eq0 : goal.bounds-tokens-0-then-tx_type-eq0
+bounds-tokens-0-then-tx_type-eq0 c = first_in c.before.before.before.before.before.before.before.before
+
+pub overflow_mul-w : goal.overflow_mul-w
+overflow_mul-w c = record { fits = omega (arith, (scanned c.before.before.before.before.before.before).most, side_most (c.args.size + 2) (lent c.before.before.before.before.before.before.before.before.before).possible.least (lent c.before.before.before.before.before.before.before.before.before).possible.most) }

@@ -1,0 +1,19 @@
+use Rattle.blocks.specs.Inverse.{apply}
+use Rattle.blocks.specs.Inner.{Safe}
+use Rattle.row_pass.proofs.line4.Goals as goal
+
+pub idct_fast4-requires : goal.idct_fast4-requires
+unfolding Safe
+idct_fast4-requires c = rw c.if-use_dct.true at c.requires
+
+pub iadst_fast16-requires : goal.iadst_fast16-requires
+unfolding Safe
+iadst_fast16-requires c = rw c.if-use_dct.false at c.requires
+
+pub returns-then-use_dct : goal.returns-then-use_dct
+unfolding apply
+returns-then-use_dct c = rw c.if-use_dct.true c.idct_fast4.ensures
+
+pub returns-else-use_dct : goal.returns-else-use_dct
+unfolding apply
+returns-else-use_dct c = rw c.if-use_dct.false c.iadst_fast16.ensures

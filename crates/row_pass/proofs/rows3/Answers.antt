@@ -1,0 +1,41 @@
+use mathlib.Core.Path.{sym, ◌∙◌}
+use mathlib.Core.Logic.{⊎_elim}
+use Prim.Native.Nat.{◌-◌}
+use native.Mathlib.Omega.{arith}
+use borrow.Author.Rules.{rules}
+use Rattle.blocks.specs.Inverse.{lossy}
+use Rattle.blocks.proofs.Passes.{small_valid}
+use Rattle.summary.specs.Summary.{is_set}
+use Rattle.row_pass.proofs.Turn.{RowTurn, Job, rows_job, row_none, turn_safe, row_next, row_skip, row_done}
+use Rattle.row_pass.proofs.rows3.Goals as goal
+use Rattle.row_pass.proofs.rows3.Goals.{Start, else-is_set, then-is_set}
+
+-- all rows of the block
+job : (c : Start) → Job (lossy c.args.use_dct) 3 c.args.block.now
+job c = rows_job _ 3 _ (omega arith) (omega arith) (small_valid 2 c.args.use_dct 3 (omega arith) (omega arith)) c.requires.0 c.requires.1
+
+pub row3-count-requires : goal.row3-count-requires
+row3-count-requires c =
+    let turn = c.loop-i.invariant in
+    (omega arith, rw turn.long c.requires.0, turn_safe (job c.before.before.before.before.before.before) turn c.loop-i-test.true, turn.clear, omega (arith, turn.few))
+
+pub loop-i-preserved : goal.loop-i-preserved
+loop-i-preserved c =
+    let j = job c.before.before.before.before in
+    elim c.if-is_set.branch [
+      | then-is_set w ↦ rw (w.JOIN-is, w.JOIN-is, w.JOIN-is)
+          (row_next j c.loop-i.invariant c.loop-i-test.true (sym c.is_set.ensures ∙ w.if-is_set.true) w.row3-count.ensures.0 w.row3-count.ensures.1 w.row3-count.ensures.2)
+      | else-is_set w ↦ rw (w.JOIN-is, w.JOIN-is, w.JOIN-is) (row_skip j c.loop-i.invariant c.loop-i-test.true (sym c.is_set.ensures ∙ w.if-is_set.false))
+    ]
+
+pub returns : goal.returns
+returns c = row_done c.loop-i.invariant c.loop-i-test.false
+
+pub loop-i-init : goal.loop-i-init
+loop-i-init c = row_none _ 3 _ _
+
+pub is_set-requires : goal.is_set-requires
+is_set-requires c = omega arith
+
+pub shape_of-block : goal.shape_of-block
+shape_of-block c = c.loop-i.invariant.long

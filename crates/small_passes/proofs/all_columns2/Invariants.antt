@@ -1,0 +1,15 @@
+use Prim.Native.Nat.{◌-◌}
+use native.Mathlib.Omega.{arith}
+use borrow.Author.Rules.{rules}
+use Rattle.whole.specs.Round.{Round2}
+use Rattle.blocks.specs.Block.{columns}
+use Rattle.blocks.specs.Inverse.{lossy, apply}
+use Rattle.blocks.proofs.Passes.{small_valid}
+use Rattle.blocks.proofs.Turns.{Job, columns_job, Turn, turn_none, turn_safe, turn_grown, turn_next, turn_done}
+use Rattle.small_passes.proofs.all_columns2.Given as goal
+
+abbrev pub invariant-loop-j : goal.invariant-loop-j
+invariant-loop-j l = Turn (lossy l.use_dct) 2 4 (λ z. Round2 z 4) (λ j. j) 4 l.initial.block l.block l.t l.j
+
+abbrev pub decreases-loop-j : goal.decreases-loop-j
+decreases-loop-j l = 4 - l.j

@@ -1,0 +1,14 @@
+use Prim.Native.Nat.{◌*◌, ◌-◌}
+use native.Mathlib.Omega.{arith}
+use borrow.Author.Rules.{rules}
+use Rattle.blocks.specs.Block.{rows}
+use Rattle.blocks.specs.Inverse.{lossy, apply}
+use Rattle.blocks.proofs.Passes.{small_valid}
+use Rattle.blocks.proofs.Turns.{Job, rows_job, Turn, turn_none, turn_safe, turn_next, turn_done}
+use Rattle.small_passes.proofs.all_rows2.Given as goal
+
+abbrev pub invariant-loop-i : goal.invariant-loop-i
+invariant-loop-i l = Turn (lossy l.use_dct) 2 4 (λ z. z) (λ i. i * 4) 1 l.initial.block l.block l.t l.i
+
+abbrev pub decreases-loop-i : goal.decreases-loop-i
+decreases-loop-i l = 4 - l.i

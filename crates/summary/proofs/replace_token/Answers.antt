@@ -1,0 +1,77 @@
+use mathlib.Core.Path.{◌≡◌, sym, ap, ◌∙◌}
+use Prim.Native.Nat.{◌+◌}
+use native.Mathlib.Omega.{arith}
+use borrow.Author.Rules.{rules}
+use lib.ListN.{length, set, length-set}
+use lib.Pow.{pow_pos}
+use mir.Syntax.{w64}
+use mir.Val.{to_z, of_z}
+use mir.ValLaws.{to_z-of_z}
+use Rattle.whole.proofs.Signed.{rd_ok}
+use Rattle.answers.specs.Answers.{number}
+use Rattle.summary.specs.Replace.{Input, coefficient, answer_of}
+use Rattle.summary.proofs.Replace.{Accepted, accepted, area_most, refused, replaced}
+use Rattle.summary.proofs.replace_token.Goals as goal
+use Rattle.summary.proofs.replace_token.Goals.{After-check-answer, After-coefficient-coef, Else-code-ne0, Start}
+
+-- what the call is given
+abbrev given : Start → Input
+given s =
+    record {
+      block = s.args.block.now;
+      summary = s.args.summary.now;
+      size = s.args.tx_sz;
+      place = s.args.place;
+      token = s.args.token;
+      dc = s.args.dc_quant;
+      ac = s.args.ac_quant;
+      depth = s.args.bit_depth;
+    }
+
+-- the answer does not rest on the summary
+told : (c : After-check-answer) → number c.check-answer.result ≡ answer_of (given c.before)
+unfolding answer_of coefficient
+told c = rw (to_z-of_z w64 c.args.token c.ranges.token) at c.check-answer.ensures
+
+passed : (c : Else-code-ne0) → answer_of (given c.before.before.before) ≡ 0
+passed c = sym (c.code.ensures ∙ told c.before.before) ∙ c.if-code-ne0.false
+
+fine : (c : Else-code-ne0) → Accepted (given c.before.before.before)
+fine c = accepted (given c.before.before.before) (passed c)
+
+pub returns-then-code-ne0 : goal.returns-then-code-ne0
+returns-then-code-ne0 c = refused (given c.before.before.before) _ (told c.before.before) (λ z. c.if-code-ne0.true (c.code.ensures ∙ z))
+
+pub coefficient-coef-requires : goal.coefficient-coef-requires
+coefficient-coef-requires c =
+    rw (to_z-of_z w64 c.args.token c.ranges.token) ((fine c).quantizers, (fine c).token)
+
+pub side-requires : goal.side-requires
+side-requires c = let f = fine c.before in (omega arith, omega (arith, f.small))
+
+-- what is written at the place
+value : (c : After-coefficient-coef) → to_z w64 (of_z w64 c.coefficient-coef.result) ≡ coefficient (given c.before.before.before.before)
+unfolding coefficient
+value c =
+    rd_ok w64 {z = c.coefficient-coef.result} c.coefficient-coef.type_inv ∙ rw (to_z-of_z w64 c.args.token c.ranges.token) at c.coefficient-coef.ensures
+
+pub renewed-requires : goal.renewed-requires
+renewed-requires c =
+    let f = fine c.before.before.before in
+    rw (c.side.ensures.0, length-set)
+    (pow_pos (c.args.tx_sz + 2), rw c.side.ensures.0 at c.side.ensures.1, f.inside, omega (arith, f.long))
+
+pub returns : goal.returns
+returns c =
+    let u = given c.before.before.before.before.before.before.before in
+    let v = value c.before.before.before in
+    replaced u _ _ (passed c.before.before.before.before) (ap (set u.block u.place) v) (rw c.side.ensures.0 at c.renewed.ensures)
+
+pub offset_bounds-block-place : goal.offset_bounds-block-place
+offset_bounds-block-place c = omega (arith, (fine c.before).inside, area_most (given c.before.before.before.before).size (fine c.before).small)
+
+pub bounds-block-place : goal.bounds-block-place
+bounds-block-place c = omega (arith, (fine c.before).inside, (fine c.before).long)
+
+pub overflow_add-tx_sz : goal.overflow_add-tx_sz
+overflow_add-tx_sz c = omega (arith, (fine c.before).small)

@@ -1,0 +1,58 @@
+-- `tested::columns` meets its contract.
+use mathlib.Core.Path.{◌≡◌, refl, ap, ◌∙◌}
+use mathlib.Core.List.{List}
+use Prim.Native.Nat.{ℕ, ◌+◌, ◌*◌, ◌-◌, ◌≤◌, ◌<◌}
+use native.Mathlib.Nat.{le_antisymm}
+use native.Mathlib.Omega.{arith}
+use lib.IntN.{ℤ}
+use borrow.Author.Rules.{rules}
+use Rattle.answers.specs.Sizes.{side}
+use Rattle.blocks.specs.Inverse.{apply}
+use Rattle.blocks.proofs.Blocks.{column_to_come, columns_loop}
+use Rattle.tested.specs.Line.{pass_of}
+use Rattle.tested.proofs.Done.{tells_yes, tells_no, area_fits, column_in, placed_as, Lines, Done, done_none, done_next, done_fails}
+use Rattle.tested.proofs.columns.Goals as goal
+use Rattle.tested.proofs.columns.Goals.{In-loop-j}
+
+-- the line is one of the block's
+inside : (c : In-loop-j) → c.loop-j.j < side c.args.n
+inside c = omega (arith, c.side-n0.ensures.0, c.loop-j-test.true)
+
+pub one-requires : goal.one-requires
+one-requires c = (
+  c.table-steps.ensures,
+  c.requires.0,
+  c.requires.1,
+  c.requires.2,
+  column_in c.args.n c.loop-j.j c.side-n0.ensures.0 c.requires.0 c.requires.1 c.loop-j-test.true,
+)
+
+pub returns-then-not-one : goal.returns-then-not-one
+returns-then-not-one c =
+    let n = c.args.n in
+    let p = pass_of c.args.kind in
+    tells_no (λ k. done_fails p n (λ k. k) (side n) c.loop-j.invariant.1 (column_to_come (apply p n) (λ z. z) (side n) c.args.z.now c.loop-j.j (inside c.before.before.before.before))
+    (placed_as p n c.loop-j.z refl c.side-n0.ensures.0 c.one.ensures) c.if-not-one.true (k.each c.loop-j.j (inside c.before.before.before.before)))
+
+pub loop-j-preserved : goal.loop-j-preserved
+loop-j-preserved c =
+    let n = c.args.n in
+    let p = pass_of c.args.kind in (
+      omega (arith, c.loop-j-test.true),
+      done_next p n (λ k. k) (side n) c.loop-j.invariant.1 (column_to_come (apply p n) (λ z. z) (side n) c.args.z.now c.loop-j.j (inside c.before.before.before.before)) (placed_as p n c.loop-j.z refl c.side-n0.ensures.0 c.one.ensures) c.if-not-one.false,
+    )
+
+pub returns : goal.returns
+returns c =
+    let n = c.args.n in
+    let p = pass_of c.args.kind in
+    let e : c.loop-j.j ≡ side n = omega (arith, c.side-n0.ensures.0, c.loop-j.invariant.0, c.loop-j-test.false) in
+    tells_yes
+    (record { each = λ k h. c.loop-j.invariant.1.keep k (omega (arith, e)) })
+    (c.loop-j.invariant.1.is ∙ ap (λ (m : ℕ). Lines p n (λ k. k) (side n) m c.args.z.now) e ∙ columns_loop (apply p n) (λ z. z) (side n) c.args.z.now (area_fits n c.requires.0 c.requires.1 c.requires.3))
+
+pub side-n0-requires : goal.side-n0-requires
+side-n0-requires c = (c.requires.0, c.requires.1)
+
+pub loop-j-init : goal.loop-j-init
+loop-j-init c = (omega arith, done_none _ _ _ _ _)

@@ -1,0 +1,70 @@
+-- `tokens::check_tokens` meets its contract.
+use mathlib.Core.Path.{◌≡◌, refl, sym, ap, ◌∙◌}
+use mathlib.Core.Bool.{Bool, true, false, cond, ◌||◌}
+use Prim.Native.Nat.{ℕ}
+use native.Mathlib.Omega.{arith}
+use lib.IntN.{pos, nat_abs}
+use lib.ListN.{length}
+use mir.Syntax.{w64}
+use borrow.Author.Rules.{rules}
+use Rattle.whole.proofs.Signed.{rd, rd_ok}
+use Rattle.answers.specs.Bad.{any_beyond}
+use Rattle.answers.specs.Limits.{codeable}
+use Rattle.answers.proofs.Passed.{codeable_most}
+use Rattle.tokens.specs.Tokens.{bad_coefficient}
+use Rattle.tokens.specs.Inner.{token_answer}
+use Rattle.tokens.proofs.Sizes.{dc_fine, ac_fine}
+use Rattle.tokens.proofs.Above.{above_either, small_fine, nine, none}
+use Rattle.tokens.proofs.check_tokens.Goals as goal
+use Rattle.tokens.proofs.check_tokens.Goals.{After-any_beyond, After-max_codeable_coef-most, After-some_above}
+
+-- the limit
+limit : (c : After-max_codeable_coef-most) → rd w64 c.max_codeable_coef-most.result ≡ pos (codeable c.args.depth)
+limit c = rd_ok w64 {z = c.max_codeable_coef-most.result} c.max_codeable_coef-most.type_inv ∙ c.max_codeable_coef-most.ensures
+
+pub dc_bound-requires : goal.dc_bound-requires
+dc_bound-requires c = dc_fine _ _ c.requires.1
+
+pub ac_bound-requires : goal.ac_bound-requires
+ac_bound-requires c = ac_fine _ _ c.requires.1
+
+-- the scan is both tests
+either : (c : After-some_above) → let a = c.args in
+    c.some_above.result ≡ any_beyond (codeable a.depth) (length a.tokens.now) a.tokens.now || bad_coefficient a.size a.dc_quant a.ac_quant a.tokens.now
+either c =
+    let a = c.args in
+    c.some_above.ensures
+    ∙ rw (limit c.before.before.before) at (above_either a.size (nat_abs (rd w64 c.max_codeable_coef-most.result)) c.dc_bound.result c.ac_bound.result a.dc_quant a.ac_quant c.requires.1
+    c.dc_bound.ensures c.ac_bound.ensures a.tokens.now)
+
+-- and the second scan the first of them
+tokens_first : (c : After-any_beyond) → let a = c.args in
+    c.any_beyond.result ≡ any_beyond (codeable a.depth) (length a.tokens.now) a.tokens.now
+tokens_first c = rw (limit c.before.before.before.before.before) at c.any_beyond.ensures
+
+pub returns-then-all_small : goal.returns-then-all_small
+returns-then-all_small c =
+    let a = c.args in
+    small_fine a.size a.depth a.dc_quant a.ac_quant a.tokens.now c.requires.0 c.requires.1 (c.all_small.ensures c.if-all_small.true)
+
+pub returns-then-any_beyond : goal.returns-then-any_beyond
+unfolding token_answer
+returns-then-any_beyond c = rw (sym (tokens_first c.before) ∙ c.if-any_beyond.true)
+
+pub returns-then-some_above : goal.returns-then-some_above
+unfolding token_answer
+returns-then-some_above c =
+    let e = sym (tokens_first c.before) ∙ c.if-any_beyond.false in
+    rw (e, nine _ _ (sym (either c.before.before.before) ∙ c.if-some_above.true) e)
+
+pub returns : goal.returns
+unfolding token_answer
+returns c =
+    let a = c.args in
+    let x = any_beyond (codeable a.depth) (length a.tokens.now) a.tokens.now in
+    let y = bad_coefficient a.size a.dc_quant a.ac_quant a.tokens.now in
+    let e = none x y (sym (either c.before) ∙ c.if-some_above.false) in
+    rw (e.0, e.1)
+
+pub overflow_cast-most : goal.overflow_cast-most
+overflow_cast-most c = rw (limit c) (tt, record { fits = omega (arith, codeable_most c.args.depth) })

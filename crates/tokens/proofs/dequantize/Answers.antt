@@ -1,0 +1,33 @@
+-- `tokens::dequantize` meets its contract.
+use mathlib.Core.Path.{◌≡◌, refl, sym, ap, ◌∙◌}
+use Prim.Native.Nat.{ℕ, ◌+◌, ◌-◌, ◌≤◌, ◌<◌}
+use native.Mathlib.Omega.{arith}
+use lib.IntN.{pos, nat_abs}
+use lib.ListN.{length, get_or, set}
+use mir.Syntax.{w64}
+use mir.ValLaws.{to_z-of_z}
+use borrow.Author.Rules.{rules}
+use Rattle.whole.specs.Lists.{fill}
+use Rattle.whole.proofs.Lists.{fill_none, fill_more, fill_done}
+use Rattle.whole.proofs.Signed.{rd_ok}
+use Rattle.quant.specs.Places.{quantizer_at}
+use Rattle.quant.specs.Token.{dequant}
+use Rattle.tokens.proofs.dequantize.Goals as goal
+
+pub coef_at-requires : goal.coef_at-requires
+coef_at-requires c =
+    let k = c.loop-k.k in
+    rw (to_z-of_z w64 (get_or c.args.tokens.now k (pos 0)) (record { sfits = c.coef_at-arg-1.given })) (c.requires.3, c.requires.2 k (omega arith))
+
+pub loop-k-preserved : goal.loop-k-preserved
+loop-k-preserved c =
+    let l = c.loop-k in
+    let t = to_z-of_z w64 (get_or c.args.tokens.now l.k (pos 0)) (record { sfits = c.coef_at-arg-1.given }) in
+    let e = rd_ok w64 {z = c.coef_at.result} c.coef_at.type_inv ∙ rw t at c.coef_at.ensures in
+    (omega arith, fill_more _ _ l.k l.invariant.1 (ap (set l.block l.k) e))
+
+pub loop-k-init : goal.loop-k-init
+loop-k-init c = (omega arith, fill_none _ _)
+
+pub returns : goal.returns
+returns c = fill_done _ _ c.loop-k.k _ (omega arith) (omega arith) c.loop-k.invariant.1

@@ -1,0 +1,61 @@
+use mathlib.Core.Path.{◌≡◌, sym, ap, ◌∙◌}
+use Prim.Native.Nat.{◌*◌, ◌≤◌}
+use native.Mathlib.Omega.{arith}
+use borrow.Author.Rules.{rules}
+use lib.ListN.{length}
+use lib.Seq.{length-take-le}
+use Rattle.vbk_read.specs.Header.{plane_area, header_answer, fields_of}
+use Rattle.vbk_read.specs.declared.Fields.{Fields}
+use Rattle.vbk_read.proofs.Headers.{good}
+use Rattle.vbk.proofs.Runs.{short_samples, short_answers, enough, refusal, whole}
+use Rattle.vbk.proofs.replay.Goals as goal
+use Rattle.vbk.proofs.replay.Goals.{After-plane_area-n, Else-code-ne0}
+
+pub returns-then-samples-lt-AREA_LIMIT : goal.returns-then-samples-lt-AREA_LIMIT
+returns-then-samples-lt-AREA_LIMIT c =
+    let a = c.args in
+    refusal a.file.now a.samples.now a.answers.now _ c.refused.ensures (sym (short_samples a.file.now a.samples.now a.answers.now c.if-samples-lt-AREA_LIMIT.true)) (λ z. omega (arith, z))
+
+pub returns-then-answers-lt-RECORD_LIMIT : goal.returns-then-answers-lt-RECORD_LIMIT
+returns-then-answers-lt-RECORD_LIMIT c =
+    let a = c.args in
+    refusal a.file.now a.samples.now a.answers.now _ c.refused-then-answers-lt-RECORD_LIMIT.ensures (sym (short_answers a.file.now a.samples.now a.answers.now c.if-samples-lt-AREA_LIMIT.false c.if-answers-lt-RECORD_LIMIT.true)) (λ z. omega (arith, z))
+
+-- the rooms are long enough: the header's answer is the run's
+pub returns-then-code-ne0 : goal.returns-then-code-ne0
+returns-then-code-ne0 c =
+    let a = c.args in
+    let h = c.read_header-h in
+    refusal a.file.now a.samples.now a.answers.now _ c.refused-then-code-ne0.ensures (h.ensures.answered ∙ sym (enough a.file.now a.samples.now a.answers.now c.if-samples-lt-AREA_LIMIT.false c.if-answers-lt-RECORD_LIMIT.false))
+    (λ z. c.if-code-ne0.true (c.code.ensures ∙ z))
+
+done : (c : Else-code-ne0) → header_answer c.args.file.now ≡ 0
+done c = sym c.read_header-h.ensures.answered ∙ sym c.code.ensures ∙ c.if-code-ne0.false
+
+fields_are : (c : Else-code-ne0) → c.read_header-h.result.fields ≡ fields_of c.args.file.now
+fields_are c = c.read_header-h.ensures.fields_are ∙ rw (done c)
+
+area_is : (c : After-plane_area-n) → c.plane_area-n.result ≡ plane_area c.args.file.now
+area_is c = c.plane_area-n.ensures ∙ ap (λ (f : Fields). f.width * f.height) (fields_are c.before.before)
+
+-- the plane's samples have room
+pub slice_bounds-play-end : goal.slice_bounds-play-end
+slice_bounds-play-end c =
+    let g = good c.args.file.now (done c.before.before) in
+    omega (arith, area_is c, g.area_fits, c.if-samples-lt-AREA_LIMIT.false)
+
+pub slice_bounds-play-end-2 : goal.slice_bounds-play-end-2
+slice_bounds-play-end-2 c = sym (length-take-le _ _ (slice_bounds-play-end c.before))
+
+pub play-tally-requires : goal.play-tally-requires
+play-tally-requires c =
+    (done c.before.before.before.before, fields_are c.before.before.before.before, length-take-le _ _ (slice_bounds-play-end c.before.before) ∙ area_is c.before.before, c.if-answers-lt-RECORD_LIMIT.false)
+
+pub returns : goal.returns
+returns c =
+    let a = c.args in
+    whole a.file.now a.samples.now a.answers.now c.read_header-h.result.answer c.read_header-h.result.fields _ _ c.plane_area-n.result _ _ (area_is c.before.before.before.before.before.before.before)
+    (sym c.code.ensures ∙ c.if-code-ne0.false)
+    (enough a.file.now a.samples.now a.answers.now c.if-samples-lt-AREA_LIMIT.false c.if-answers-lt-RECORD_LIMIT.false ∙ done c.before.before.before.before.before.before.before.before.before)
+    (fields_are c.before.before.before.before.before.before.before.before.before)
+    c.play-tally.ensures

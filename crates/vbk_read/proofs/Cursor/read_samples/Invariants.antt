@@ -1,0 +1,17 @@
+use mathlib.Core.Path.{◌≡◌, refl, ap, ◌∙◌}
+use Prim.Native.Nat.{ℕ, ◌+◌, ◌*◌, ◌-◌, ◌≤◌}
+use native.Mathlib.Omega.{arith}
+use borrow.Author.Rules.{rules}
+use lib.ListN.{length, set}
+use Rattle.whole.specs.Lists.{fill}
+use Rattle.whole.proofs.Lists.{fill_none, fill_more, fill_done}
+use Rattle.vbk_read.specs.Bytes.{le2}
+use Rattle.vbk_read.specs.Header.{sample_at}
+use Rattle.vbk_read.proofs.Cursor.read_samples.Given as goal
+
+abbrev pub invariant-loop-k : goal.invariant-loop-k
+invariant-loop-k l =
+    (l.k ≤ l.count) × (l.c.at ≡ l.initial.c.at + 2 * l.k) × (length l.samples ≡ length l.initial.samples) × (l.samples ≡ fill l.k (sample_at l.s l.initial.c.at) l.initial.samples)
+
+abbrev pub decreases-loop-k : goal.decreases-loop-k
+decreases-loop-k l = l.count - l.k

@@ -1,0 +1,27 @@
+use mathlib.Core.Path.{◌≡◌, sym, ap, ◌∙◌}
+use borrow.Author.Rules.{rules}
+use Rattle.answers.specs.Answers.{number}
+use Rattle.vbk.specs.Replay.{Rebuilt}
+use Rattle.vbk_report.specs.Lists.{beside}
+use Rattle.vbk_report.specs.Run.{report_reconstruction}
+use Rattle.vbk.proofs.Records.{refused_answer, refused_samples, whole_record, rebuilt_is}
+use Rattle.vbk_report.proofs.answer_record.Goals as goal
+
+pub returns-then-own-ne0 : goal.returns-then-own-ne0
+returns-then-own-ne0 c =
+    let a = c.args in
+    let z : number a.«record».answer ≡ 0 → ⊥ = λ q. c.if-own-ne0.true (c.number8-own.ensures ∙ q) in
+    (c.number8-own.ensures ∙ refused_answer a.file.now a.at c.requires.1 c.requires.2 report_reconstruction (beside a.samples.now a.counts.now a.sums.now) z, refused_samples a.file.now a.at c.requires.1 c.requires.2 report_reconstruction (beside a.samples.now a.counts.now a.sums.now) z)
+
+pub rebuild-requires : goal.rebuild-requires
+rebuild-requires c =
+    let a = c.args in
+    let w = whole_record a.file.now a.at c.requires.1 c.requires.2 (sym c.number8-own.ensures ∙ c.if-own-ne0.false) in
+    (w.0, w.1, w.2, c.requires.0)
+
+pub returns : goal.returns
+returns c =
+    let a = c.args in
+    let b = c.rebuild in
+    let w = rebuilt_is a.file.now a.at c.requires.1 c.requires.2 (sym c.number8-own.ensures ∙ c.if-own-ne0.false) report_reconstruction (beside a.samples.now a.counts.now a.sums.now) in
+    (c.number8.ensures ∙ b.ensures.0 ∙ sym (ap (λ (x : Rebuilt). x.answer) w), b.ensures.1 ∙ sym (ap (λ (x : Rebuilt). x.samples) w))

@@ -1,0 +1,19 @@
+use mathlib.Core.Path.{◌≡◌, refl, sym, ◌∙◌}
+use Prim.Native.Nat.{◌-◌, ◌<◌}
+use native.Mathlib.Omega.{arith}
+use borrow.Author.Rules.{rules}
+use borrow.Author.Tests.{ltb-true, ltb-false}
+use lib.ListN.{length}
+use Rattle.vbk_read.specs.Records.{Recorded}
+use Rattle.vbk_report.specs.Lists.{beside}
+use Rattle.vbk_report.specs.Run.{report_reconstruction}
+use Rattle.vbk.proofs.Records.{Reading, reading_none, reading_room, reading_more, reading_done, moves}
+use Rattle.vbk_report.proofs.Given.{as_long}
+use Rattle.vbk_report.proofs.read_records.Given as goal
+
+abbrev pub invariant-loop-record : goal.invariant-loop-record
+invariant-loop-record l =
+    Reading report_reconstruction l.file l.from (beside l.initial.samples l.initial.counts l.initial.sums) l.initial.answers (beside l.samples l.counts l.sums) l.answers l.at l.tally.count l.tally.touched × Recorded l.file l.at l.record × (length l.samples ≡ length l.initial.samples)
+
+abbrev pub decreases-loop-record : goal.decreases-loop-record
+decreases-loop-record l = length l.file - l.at

@@ -1,0 +1,13 @@
+use mathlib.Core.Path.{sym, ap}
+use Prim.Native.Nat.{◌+◌, ◌-◌}
+use borrow.Author.Rules.{rules}
+use lib.ListN.{get_or}
+use Rattle.vbk_text.specs.Text.{word, samples_from}
+use Rattle.vbk_text.proofs.Writing.{put_as, room_as, Pieces, pieces_none, pieces_room, pieces_more, pieces_done, pieces_length}
+use Rattle.vbk_text.proofs.put_samples.Given as goal
+
+abbrev pub invariant-loop-c : goal.invariant-loop-c
+invariant-loop-c l = Pieces l.initial.out l.initial.place l.count (λ k. word (get_or l.samples (l.from + k) 0)) l.c l.out l.place
+
+abbrev pub decreases-loop-c : goal.decreases-loop-c
+decreases-loop-c l = l.count - l.c
