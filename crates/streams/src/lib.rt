@@ -2,7 +2,8 @@
 // argument, a file opened by such bytes. Where a call fails, a bool or a count says so. No function has a `requires`.
 #![tactic(auto)]
 
-ghost use Rattle.std.specs.Prelude.{◌≡◌, ◌≤◌, ◌++◌, ℕ, List, [], ◌∷◌, length, take, decimal, codes, IsTrue};
+ghost use Rattle.std.specs.Prelude.{◌≡◌, ◌≤◌, ◌++◌, ℕ, List, [], ◌∷◌, length, take, decimal, codes, IsTrue, IsErrAnd, IsUtf8};
+ghost use Rattle.std.specs.IoError.{error_kind};
 ghost use Rattle.std.specs.Io.KnownBytes.{Appends, Consumes, IsAtEnd};
 ghost use Rattle.streams.specs.Hex.{sixteen_digits};
 
@@ -96,7 +97,9 @@ pub fn arg<E: Env>(env: &E, i: usize, buf: &mut [u8]) -> usize
 }
 
 // Opens a file for reading. std names files by text: a path that is no UTF-8 is an invalid file name.
-pub fn open_read<F: Files>(files: &F, path: &[u8]) -> io::Result<F::File> {
+pub fn open_read<F: Files>(files: &F, path: &[u8]) -> io::Result<F::File>
+    ensures { ¬ (IsUtf8 path.now) → IsErrAnd result (λ e. error_kind e ≡ ErrorKind.InvalidFilename) }
+{
     match str::from_utf8(path) {
         Ok(text) => fs::open(files, text),
         Err(_) => Err(Error::from(ErrorKind::InvalidFilename)),
@@ -121,5 +124,133 @@ fn os_words(text: &str) -> &str {
     match text.split_once(" (os error ") {
         Some((words, _)) => words,
         None => text,
+    }
+}
+
+#[cfg(test)]
+mod tests {
+    use super::*;
+    use std::test::Fail;
+
+    // A reader that gives a byte at a time and fails after some, and a writer that takes a byte at a time and then none.
+    #[derive(Drop)]
+    struct Short {
+        left: u8,
+    }
+
+    impl Read for Short {
+        fn read(&mut self, buf: &mut [u8]) -> io::Result<usize> {
+            if self.left == 0 {
+                return Err(Error::from(ErrorKind::TimedOut));
+            }
+            if buf.len() == 0 {
+                return Ok(0);
+            }
+            self.left -= 1;
+            buf[0] = b'a';
+            Ok(1)
+        }
+    }
+
+    impl Write for Short {
+        fn write(&mut self, bytes: &[u8]) -> io::Result<usize> {
+            if self.left == 0 {
+                return Ok(0);
+            }
+            self.left -= 1;
+            Ok(bytes.len().min(1))
+        }
+
+        fn flush(&mut self) -> io::Result<()> {
+            Ok(())
+        }
+    }
+
+    #[test]
+    fn reads_to_the_end(rt: HostRuntime) {
+        let mut input: &[u8] = b"hello";
+        let mut room = [0u8; 8];
+        assert_eq!(rt; read_full(&mut input, &mut room), 5);
+        assert_eq!(rt; room, *b"hello\0\0\0");
+        assert!(rt; at_end(&mut input));
+    }
+
+    #[test]
+    fn fills_its_room(rt: HostRuntime) {
+        let mut input: &[u8] = b"hello";
+        let mut room = [0u8; 3];
+        assert_eq!(rt; read_full(&mut input, &mut room), 3);
+        assert_eq!(rt; room, *b"hel");
+        assert!(rt; !at_end(&mut input));
+    }
+
+    #[test]
+    fn tells_a_read_that_fails(rt: HostRuntime) {
+        let mut input = Short { left: 3 };
+        let mut room = [0u8; 8];
+        assert_eq!(rt; read_full(&mut input, &mut room), 3);
+        assert_eq!(rt; room, *b"aaa\0\0\0\0\0");
+        assert!(rt; !at_end(&mut input));
+    }
+
+    #[test]
+    fn tells_a_write_that_fails(rt: HostRuntime) {
+        assert!(rt; write_all(&mut Short { left: 5 }, b"hello"));
+        assert!(rt; !write_all(&mut Short { left: 4 }, b"hello"));
+        assert!(rt; !print_decimal(&mut Short { left: 2 }, 100));
+        assert!(rt; !print_hex(&mut Short { left: 15 }, 1));
+    }
+
+    #[test]
+    fn writes_numbers(rt: HostRuntime) -> Result<(), Fail> {
+        let mut out = Vec::new(rt.alloc());
+        assert!(rt; print_decimal(&mut out, 0));
+        assert!(rt; write_all(&mut out, b" "));
+        assert!(rt; print_decimal(&mut out, 18446744073709551615));
+        assert!(rt; write_all(&mut out, b" "));
+        assert!(rt; print_hex(&mut out, 0xdeadbeef));
+        assert_eq!(rt;
+            out.as_slice(),
+            b"0 18446744073709551615 00000000deadbeef".as_slice()
+        );
+        Ok(())
+    }
+
+    // The words are the C library's.
+    #[test]
+    fn says_why(rt: HostRuntime) -> Result<(), Fail> {
+        let mut out = Vec::new(rt.alloc());
+        assert!(rt; fail(&mut out, b"x", Error::from_raw_os_error(2)));
+        assert!(rt; fail(&mut out, b"", Error::from(ErrorKind::InvalidFilename)));
+        assert_eq!(rt;
+            out.as_slice(),
+            b"x: No such file or directory\n: invalid filename\n".as_slice()
+        );
+        Ok(())
+    }
+
+    #[test]
+    fn opens_by_bytes(rt: HostRuntime) -> Result<(), Fail> {
+        for (path, kind) in [
+            (b"".as_slice(), ErrorKind::NotFound),
+            (b"\xff".as_slice(), ErrorKind::InvalidFilename),
+        ] {
+            match open_read(&rt, path) {
+                Ok(_) => assert!(rt; false),
+                Err(error) => assert_eq!(rt; error.kind(), kind),
+            }
+        }
+        assert!(rt; at_end(&mut open_read(&rt, b"/dev/null")?));
+        Ok(())
+    }
+
+    #[test]
+    fn is_given_its_name(rt: HostRuntime) {
+        let mut name = buffer();
+        assert!(rt; 0 < arg_count(&rt));
+        assert!(rt; 0 < arg(&rt, 0, &mut name));
+        assert_eq!(rt; arg(&rt, 0, &mut name[..0]), 0);
+        assert_eq!(rt; arg(&rt, arg_count(&rt), &mut name), 0);
+        assert_eq!(rt; large_buffer().len(), 65536);
     }
 }
