@@ -5,13 +5,13 @@ use mathlib.Core.List.{List}
 use Prim.Native.Nat.{ℕ, zero, suc, ◌+◌, ◌*◌, ◌≤◌, ◌<◌}
 use native.Mathlib.Nat as N
 use native.Mathlib.Omega.{arith}
-use borrow.Author.Tests.{lt-ltb, ltb-false, eqb-true, not-false}
+use borrow.Author.Tests.{lt-ltb, ltb-false, eqb-true}
 use lib.Dec.{ltb, eqb}
 use lib.ListN.{length}
 use Rattle.answers.specs.Answers.{number}
-use Rattle.answers.specs.Sizes.{side, area}
+use Rattle.answers.specs.Sizes.{side}
 use Rattle.answers.proofs.Numbers.{pass, rest}
-use Rattle.vbk_read.specs.Records.{size_at, lossless_at, head_at, next_at, end_answer, ends, lossless_answer, check_answer, Recorded}
+use Rattle.vbk_read.specs.Records.{size_at, lossless_at, next_at, end_answer, ends, lossless_answer, check_answer, Recorded}
 use Rattle.vbk_read.specs.Header.{width_of, height_of, plane_area, header_answer, fields_of, Headed}
 use Rattle.vbk_read.specs.declared.Header.{Header}
 use Rattle.vbk_read.specs.declared.Head.{Head}

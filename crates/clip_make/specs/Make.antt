@@ -1,5 +1,5 @@
 -- What `make` promises: what it made is a file that the writer takes the lists of, or nothing; and words that their buffer has room for.
-use Rattle.std.specs.Prelude.{◌≡◌, Bool, true, false, List, ◌++◌, ℕ, length, drop}
+use Rattle.std.specs.Prelude.{◌≡◌, true, false, List, ◌++◌, ℕ, length, drop}
 use Rattle.clip_rows.specs.Rows.{Said}
 use Rattle.vbk_write.specs.Lent.{Lent, file_of}
 use Rattle.vbk_write.specs.Promises.{answer_of}

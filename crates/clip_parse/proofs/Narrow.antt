@@ -1,5 +1,4 @@
 -- −n fits 32 bits for n up to 2^31.
-use mathlib.Core.Path.{◌≡◌}
 use Prim.Native.Nat.{ℕ, ◌≤◌}
 use native.Mathlib.Omega.{arith}
 use lib.IntN.{pos, neg_ℤ, ◌-ℤ◌}

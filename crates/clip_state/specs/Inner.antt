@@ -1,5 +1,5 @@
 -- What the contracts of the functions that take rows say of the state.
-use Rattle.std.specs.Prelude.{ℕ, ◌+◌, ◌*◌, ◌≤◌}
+use Rattle.std.specs.Prelude.{◌+◌, ◌*◌, ◌≤◌}
 use Rattle.clip_told.specs.declared.State.{State}
 
 -- the file so far has room for every record taken and for its tokens, and is no longer than a file may be

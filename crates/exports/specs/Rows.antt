@@ -38,7 +38,7 @@ pub record Beside : Type 0 where
 
 -- what a replacement leaves
 abbrev pub replaced_after : Z.Input → Beside
-replaced_after u = record { block = Z.blockAfter u; rows = Z.summaryAfter u }
+replaced_after u = record { block = Z.block_after u; rows = Z.summary_after u }
 
 -- what the driver is given, and the number in the room for its row transforms
 pub record Counting : Type 0 where
@@ -50,4 +50,4 @@ counting_answer u = D.answer_of u.input
 
 -- the block, and how many rows were transformed; the room stays under a refusal
 abbrev pub counting_after : Counting → Beside
-counting_after u = record { block = D.blockAfter u.input; rows = cond (eqb (D.answer_of u.input) 0) (length (transformed u.input)) u.room }
+counting_after u = record { block = D.block_after u.input; rows = cond (eqb (D.answer_of u.input) 0) (length (transformed u.input)) u.room }

@@ -33,7 +33,7 @@ unfolding answer_of32
 driver_first u h = rw (ne_eqb (D.answer_of u) 0 h)
 
 pub refused : (u : Input) {a : Answer} {after : List ℤ} → D.Driven u a after → (number a ≡ 0 → ⊥) → Driven32 u a after
-unfolding block_after32 D.blockAfter
+unfolding block_after32 D.block_after
 refused u d h =
     let g = driver_first u (λ q. h (d.answered ∙ q)) in
     record { answered = d.answered ∙ sym g; written = rw g d.written }

@@ -99,15 +99,15 @@ module _ (u : T.Input) (e : u.block.plane.stride ≡ u.block.plane.width) where
   unfolding T.answer_of report_answer_before
   same_report = rw (same_answer u.block e)
 
-  same_samples : T.samplesAfter u ≡ report_samples_before u
-  unfolding T.samplesAfter report_samples_before
+  same_samples : T.samples_after u ≡ report_samples_before u
+  unfolding T.samples_after report_samples_before
   same_samples = rw (same_report, (as_before u.block e).1)
 
-  same_list : (f : ℕ → ℕ) (list : List ℕ) → T.listAfter f u list ≡ list_before f u list
-  unfolding T.listAfter list_before
+  same_list : (f : ℕ → ℕ) (list : List ℕ) → T.list_after f u list ≡ list_before f u list
+  unfolding T.list_after list_before
   same_list f list = rw same_report
 
-  pub report_as_before : (T.answer_of u ≡ report_answer_before u) × (T.samplesAfter u ≡ report_samples_before u) × ((f : ℕ → ℕ) (list : List ℕ) → T.listAfter f u list ≡ list_before f u list)
+  pub report_as_before : (T.answer_of u ≡ report_answer_before u) × (T.samples_after u ≡ report_samples_before u) × ((f : ℕ → ℕ) (list : List ℕ) → T.list_after f u list ≡ list_before f u list)
   report_as_before = (same_report, same_samples, same_list)
 
   pub report_call_as_before : (a : Answer) (samples counts sums : List ℕ) → T.Reported u a samples counts sums

@@ -120,7 +120,7 @@ unfolding bad_coefficient dequant_all
 coefs_good dc ac tokens p q h =
     no_beyond COEF_LIMIT (length tokens) (dequant_all 0 dc ac tokens)
     (λ k l. let t = get_or tokens k (pos 0) in
-    rw (get_d_tabulate (λ k. dequant 0 (quantizer_at dc ac k) (get_or tokens k (pos 0))) (length tokens) k (pos 0) l, F.by-four dc ac p q k, dequant_abs 0 (pos 4) t (four (pos 4) refl))
+    rw (get_d_tabulate (λ k. dequant 0 (quantizer_at dc ac k) (get_or tokens k (pos 0))) (length tokens) k (pos 0) l, F.by_four dc ac p q k, dequant_abs 0 (pos 4) t (four (pos 4) refl))
     (omega (arith, h k l)))
 
 module _ (c : Coded) (l : Lossless c) where
@@ -156,7 +156,7 @@ module _ (c : Coded) (l : Lossless c) where
       )
 
   tokens_length : length (forward_wht c.differences) ≡ 16
-  tokens_length = F.forward-length c.differences ∙ l.sixteen
+  tokens_length = F.forward_length c.differences ∙ l.sixteen
 
   -- ---- and so is the reconstruction
   decoded_zero : answer_of (decoding c (forward_wht c.differences)) ≡ 0
@@ -168,9 +168,9 @@ module _ (c : Coded) (l : Lossless c) where
         eq-eqb (length (forward_wht c.differences)) 16 tokens_length,
         plane_good c.plane c.samples l.samples_ok,
         no_beyond (codeable c.depth) (length (forward_wht c.differences)) (forward_wht c.differences)
-            (λ k h. F.forward-codeable c.depth c.differences l.depth_ok room differences_within k (omega (arith, tokens_length))),
+            (λ k h. F.forward_codeable c.depth c.differences l.depth_ok room differences_within k (omega (arith, tokens_length))),
         coefs_good c.dc c.ac (forward_wht c.differences) l.dc_four l.ac_four
-            (λ k h. NatL.le_trans (F.forward-codeable c.depth c.differences l.depth_ok room differences_within k (omega (arith, tokens_length))) (codeable_most c.depth)),
+            (λ k h. NatL.le_trans (F.forward_codeable c.depth c.differences l.depth_ok room differences_within k (omega (arith, tokens_length))) (codeable_most c.depth)),
       )
 
   -- ---- the plane afterwards

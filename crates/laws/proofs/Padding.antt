@@ -123,20 +123,20 @@ module _ (u : T.Input) (samples : List ℕ) (e : Agree u.block.plane u.block.sam
   unfolding T.answer_of
   same_report_answer = rw (same_answer u.block samples e.as_long)
 
-  agree_report : Agree u.block.plane (T.samplesAfter u) (T.samplesAfter (lent_report u samples))
-  unfolding T.samplesAfter
+  agree_report : Agree u.block.plane (T.samples_after u) (T.samples_after (lent_report u samples))
+  unfolding T.samples_after
   agree_report = rw (sym same_report_answer) (go (eqb (T.answer_of u) 0))
     where
       go : (b : Bool) → Agree u.block.plane (cond b (samples_after u.block) u.block.samples) (cond b (samples_after (lent u.block samples)) samples)
       go true = agree_samples u.block samples e
       go false = e
 
-  same_list : (f : ℕ → ℕ) (list : List ℕ) → T.listAfter f u list ≡ T.listAfter f (lent_report u samples) list
-  unfolding T.listAfter
+  same_list : (f : ℕ → ℕ) (list : List ℕ) → T.list_after f u list ≡ T.list_after f (lent_report u samples) list
+  unfolding T.list_after
   same_list f list = rw same_report_answer
 
-padding_report : (u : T.Input) → SamePadding u.block.plane u.block.samples (T.samplesAfter u)
-unfolding T.samplesAfter
+padding_report : (u : T.Input) → SamePadding u.block.plane u.block.samples (T.samples_after u)
+unfolding T.samples_after
 padding_report u = go (eqb (T.answer_of u) 0)
   where
     go : (b : Bool) → SamePadding u.block.plane u.block.samples (cond b (samples_after u.block) u.block.samples)

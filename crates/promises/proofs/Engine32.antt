@@ -154,14 +154,14 @@ module _ (u : D.Input) where
   leaves h = go (either (kept_rows (row_pass u.tx_type u.lossless) u.n u.block) (kept_columns (column_pass u.tx_type u.lossless) u.n left) (not-true _ h))
     where
       go : (kept_rows (row_pass u.tx_type u.lossless) u.n u.block ≡ false) ⊎ (kept_columns (column_pass u.tx_type u.lossless) u.n left ≡ false) → W.Engine32 u 18
-      go (inl e) = let f = every_some _ (side u.n) e in W.row-leaves f.place f.listed (line_leaves _ _ _ f.fails)
-      go (inr e) = let f = every_some _ (side u.n) e in W.column-leaves f.place f.listed (line_leaves _ _ _ f.fails)
+      go (inl e) = let f = every_some _ (side u.n) e in W.row_leaves f.place f.listed (line_leaves _ _ _ f.fails)
+      go (inr e) = let f = every_some _ (side u.n) e in W.column_leaves f.place f.listed (line_leaves _ _ _ f.fails)
 
   split : (k : ℕ) → W.Engine32 u k → W.Driver u k ⊎ ((k ≡ 18) × (test ≡ true))
   unfolding left
   split k (W.driver w) = inl w
-  split k (W.row-leaves i h l) = inr (refl, row_test i h l)
-  split k (W.column-leaves j h l) = inr (refl, column_test j h l)
+  split k (W.row_leaves i h l) = inr (refl, row_test i h l)
+  split k (W.column_leaves j h l) = inr (refl, column_test j h l)
 
   engine32_exactly : Exactly (W.Engine32 u) (answer_of32 u)
   unfolding answer_of32 width_answer test
@@ -180,7 +180,7 @@ own a b h = go (eqb a 0) refl
     go false e = rw e at h
 
 pub engine32_agrees : (u : D.Input) (a b : Answer) (s t : List ℤ) → Driven32 u a s → D.Driven u b t → number a ≡ 0 → (number b ≡ 0) × (s ≡ t)
-unfolding answer_of32 block_after32 D.blockAfter
+unfolding answer_of32 block_after32 D.block_after
 engine32_agrees u a b s t p q h =
     let z : answer_of32 u ≡ 0 = sym p.answered ∙ h in
     let d : D.answer_of u ≡ 0 = own (D.answer_of u) (width_answer u) z in

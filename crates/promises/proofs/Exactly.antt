@@ -19,6 +19,7 @@ pub data Each (When : ℕ → Type 0) : List (ℕ × Bool) → Type 0 where
 from_each : (When : ℕ → Type 0) (ts : List (ℕ × Bool)) → Each When ts → (n : ℕ) → Applies n ts → When n
 from_each When (t ∷ ts) (more f e) n here = f refl
 from_each When (t ∷ ts) (more f e) n (there a) = from_each When ts e n a
+from_each When [] _ n x3 = elim x3 [ ]
 
 -- a condition's test stands first in the rest of the table
 pub here_if : (n : ℕ) (b : Bool) (ts : List (ℕ × Bool)) → b ≡ true → Applies n ((n, b) ∷ ts)
@@ -74,6 +75,7 @@ in_order Step numbers ts z r e f =
 pub later : (n : ℕ) (ts : List (ℕ × Bool)) → Applies n ts → Applies (suc n) (renumber suc ts)
 later n (t ∷ ts) here = here
 later n (t ∷ ts) (there a) = there (later n ts a)
+later n [] x' = elim x' [ ]
 
 pub each_later : (When Then : ℕ → Type 0) (ts : List (ℕ × Bool)) → ((n : ℕ) → When n → Then (suc n)) → Each When ts → Each Then (renumber suc ts)
 each_later When Then [] f e = none

@@ -44,7 +44,7 @@ mark_test s h = go (eqb (le1 s 0) 86) (eqb (le1 s 1) 66) (eqb (le1 s 2) 75) refl
 no_area : (s : List ℕ) → bad_area (plane_area s) ≡ true → W.Header s 6
 unfolding bad_area
 no_area s h =
-    T.or-true (eqb (plane_area s) 0) (ltb AREA_LIMIT (plane_area s)) (λ e. W.empty (eqb-true (plane_area s) 0 e)) (λ e. W.wide (ltb-true AREA_LIMIT (plane_area s) e)) h
+    T.or_true (eqb (plane_area s) 0) (ltb AREA_LIMIT (plane_area s)) (λ e. W.empty (eqb-true (plane_area s) 0 e)) (λ e. W.wide (ltb-true AREA_LIMIT (plane_area s) e)) h
 
 empty_test : (s : List ℕ) → plane_area s ≡ 0 → bad_area (plane_area s) ≡ true
 unfolding bad_area
@@ -71,25 +71,25 @@ header_each s =
     (more (λ e. W.short (ltb-true (length s) HEADER_BYTES e))
     (more (λ e. W.mark (not_marked s e))
     (more (λ e. W.version (T.differ (version_of s) 1 e))
-    (more (λ e. W.depth (T.no-depth (depth_of s) e)) (more (no_area s) (more (λ e. W.samples (ltb-true (length s) (first_record s) e)) none))))))
+    (more (λ e. W.depth (T.no_depth (depth_of s) e)) (more (no_area s) (more (λ e. W.samples (ltb-true (length s) (first_record s) e)) none))))))
 
 header_has : (s : List ℕ) (n : ℕ) → W.Header s n → Applies n (header_steps s)
 header_has s n (W.large h) = here_if 1 _ _ (lt-ltb FILE_LIMIT (length s) h)
 header_has s n (W.short h) = there (here_if 2 _ _ (lt-ltb (length s) HEADER_BYTES h))
 header_has s n (W.mark h) = there (there (here_if 3 _ _ (mark_test s h)))
 header_has s n (W.version h) = there (there (there (here_if 4 _ _ (T.differs (version_of s) 1 h))))
-header_has s n (W.depth h) = there (there (there (there (here_if 5 _ _ (T.depth-test (depth_of s) h)))))
+header_has s n (W.depth h) = there (there (there (there (here_if 5 _ _ (T.depth_test (depth_of s) h)))))
 header_has s n (W.empty h) = there (there (there (there (there (here_if 6 _ _ (empty_test s h))))))
 header_has s n (W.wide h) = there (there (there (there (there (here_if 6 _ _ (area_test s h))))))
 header_has s n (W.samples h) = there (there (there (there (there (there (here_if 7 _ _ (lt-ltb (length s) (first_record s) h)))))))
 
-header_order : (s : List ℕ) → InOrder (W.Header s) W.headerNumbers (header_answer s)
+header_order : (s : List ℕ) → InOrder (W.Header s) W.header_numbers (header_answer s)
 unfolding header_answer
-header_order s = in_order (W.Header s) W.headerNumbers (header_steps s) refl tt (header_each s) (header_has s)
+header_order s = in_order (W.Header s) W.header_numbers (header_steps s) refl tt (header_each s) (header_has s)
 
 -- `read_header`
-pub header_when : (s : List ℕ) (h : Header) → Headed s h → InOrder (W.Header s) W.headerNumbers (number h.answer)
-header_when s h p = subst (λ (n : ℕ). InOrder (W.Header s) W.headerNumbers n) (sym p.answered) (header_order s)
+pub header_when : (s : List ℕ) (h : Header) → Headed s h → InOrder (W.Header s) W.header_numbers (number h.answer)
+header_when s h p = subst (λ (n : ℕ). InOrder (W.Header s) W.header_numbers n) (sym p.answered) (header_order s)
 
 -- ---- a record
 abbrev record_steps : List ℕ → ℕ → List (ℕ × Bool)
@@ -102,7 +102,7 @@ record_steps s at =
     ∷ []
 
 nothing_left : (s : List ℕ) (at : ℕ) → not (found s at) ≡ true → length s ≤ at
-nothing_left s at e = ltb-false at (length s) (T.not-true (found s at) e)
+nothing_left s at e = ltb-false at (length s) (T.not_true (found s at) e)
 
 record_each : (s : List ℕ) (at : ℕ) → Each (W.Record s at) (record_steps s at)
 record_each s at =
@@ -133,14 +133,14 @@ check_is : (s : List ℕ) (at : ℕ)
 unfolding check_answer end_answer
 check_is s at = joined (found s at) (ltb (length s) (at + HEAD_BYTES)) (bad_size (size_at s at)) (ltb (length s) (next_at s at)) (ltb 1 (lossless_at s at))
 
-record_order : (s : List ℕ) (at : ℕ) → InOrder (W.Record s at) W.recordNumbers (check_answer s at)
+record_order : (s : List ℕ) (at : ℕ) → InOrder (W.Record s at) W.record_numbers (check_answer s at)
 record_order s at =
-    subst (λ (n : ℕ). InOrder (W.Record s at) W.recordNumbers n) (sym (check_is s at))
-    (in_order (W.Record s at) W.recordNumbers (record_steps s at) refl tt (record_each s at) (record_has s at))
+    subst (λ (n : ℕ). InOrder (W.Record s at) W.record_numbers n) (sym (check_is s at))
+    (in_order (W.Record s at) W.record_numbers (record_steps s at) refl tt (record_each s at) (record_has s at))
 
 -- what a reader finds at its place: the answer
-pub record_when : (s : List ℕ) (at : ℕ) (r : Record) → Recorded s at r → InOrder (W.Record s at) W.recordNumbers (number r.answer)
-record_when s at r p = subst (λ (n : ℕ). InOrder (W.Record s at) W.recordNumbers n) (sym p.answered) (record_order s at)
+pub record_when : (s : List ℕ) (at : ℕ) (r : Record) → Recorded s at r → InOrder (W.Record s at) W.record_numbers (number r.answer)
+record_when s at r p = subst (λ (n : ℕ). InOrder (W.Record s at) W.record_numbers n) (sym p.answered) (record_order s at)
 
 -- there is a further record when, and only when, a byte is left
 pub found_when : (s : List ℕ) (at : ℕ) (r : Record) → Recorded s at r → (at < length s → r.found ≡ true) × (r.found ≡ true → at < length s)
@@ -165,8 +165,8 @@ ends_if s at (W.Ends.tokens h) = ends_are s at ∙ T.right (ltb (length s) (at +
 
 ends_only : (s : List ℕ) (at : ℕ) → ends s at ≡ true → W.Ends s at
 ends_only s at e =
-    T.or-true (ltb (length s) (at + HEAD_BYTES)) (bad_size (size_at s at) || ltb (length s) (next_at s at)) (λ q. W.Ends.head (ltb-true (length s) (at + HEAD_BYTES) q))
-    (T.or-true (bad_size (size_at s at)) (ltb (length s) (next_at s at)) (λ q. W.Ends.size (ltb-true 3 (size_at s at) q)) (λ q. W.Ends.tokens (ltb-true (length s) (next_at s at) q)))
+    T.or_true (ltb (length s) (at + HEAD_BYTES)) (bad_size (size_at s at) || ltb (length s) (next_at s at)) (λ q. W.Ends.head (ltb-true (length s) (at + HEAD_BYTES) q))
+    (T.or_true (bad_size (size_at s at)) (ltb (length s) (next_at s at)) (λ q. W.Ends.size (ltb-true 3 (size_at s at) q)) (λ q. W.Ends.tokens (ltb-true (length s) (next_at s at) q)))
     (sym (ends_are s at) ∙ e)
 
 pub ends_when : (s : List ℕ) (at : ℕ) (r : Record) → Recorded s at r → (W.Ends s at → r.ends ≡ true) × (r.ends ≡ true → W.Ends s at)
@@ -206,22 +206,22 @@ run_is : (b : Bool) (r : ℕ) → cond b r 6 ≡ cond (not b) 6 r
 run_is true r = refl
 run_is false r = refl
 
-run_order : (s samples answers : List ℕ) → InOrder (W.Run s samples answers) W.runNumbers (run_answer s samples answers)
+run_order : (s samples answers : List ℕ) → InOrder (W.Run s samples answers) W.run_numbers (run_answer s samples answers)
 unfolding run_answer header_answer
 run_order s samples answers =
-    subst (λ (n : ℕ). InOrder (W.Run s samples answers) W.runNumbers n) (sym (run_is (roomy samples answers) (header_answer s)))
-    (in_order (W.Run s samples answers) W.runNumbers (run_steps s samples answers) refl tt
+    subst (λ (n : ℕ). InOrder (W.Run s samples answers) W.run_numbers n) (sym (run_is (roomy samples answers) (header_answer s)))
+    (in_order (W.Run s samples answers) W.run_numbers (run_steps s samples answers) refl tt
     (more (run_room s samples answers) (each_later (W.Header s) (W.Run s samples answers) (header_steps s) (λ k h. W.header h) (header_each s)))
     (run_has s samples answers))
 
 -- `replay`
 pub run_when : (s samples answers : List ℕ) (r : Run) (samples' answers' : List ℕ) → Replayed s samples answers r samples' answers'
-    → InOrder (W.Run s samples answers) W.runNumbers (number r.answer)
+    → InOrder (W.Run s samples answers) W.run_numbers (number r.answer)
 run_when s samples answers r samples' answers' p =
-    subst (λ (n : ℕ). InOrder (W.Run s samples answers) W.runNumbers n) (sym p.answered) (run_order s samples answers)
+    subst (λ (n : ℕ). InOrder (W.Run s samples answers) W.run_numbers n) (sym p.answered) (run_order s samples answers)
 
 -- `replay_report`: the same numbers, whatever its records are answered
 pub report_run_when : (s samples answers counts sums : List ℕ) (r : Run) (samples' answers' counts' sums' : List ℕ) → ReplayedReport s samples answers counts sums r samples' answers' counts' sums'
-    → InOrder (W.Run s samples answers) W.runNumbers (number r.answer)
+    → InOrder (W.Run s samples answers) W.run_numbers (number r.answer)
 report_run_when s samples answers counts sums r samples' answers' counts' sums' p =
-    subst (λ (n : ℕ). InOrder (W.Run s samples answers) W.runNumbers n) (sym p.answered) (run_order s samples answers)
+    subst (λ (n : ℕ). InOrder (W.Run s samples answers) W.run_numbers n) (sym p.answered) (run_order s samples answers)

@@ -35,5 +35,5 @@ use Rattle.vbk_write.specs.Promises as W
 use Rattle.promises.specs.Numbers.{numbers, givens, saids}
 
 pub worked : givens numbers ≡ saids numbers
-unfolding numbers inverse2d rows_then_columns rows columns anew line tabulate apply rounding dct dct_row dct_steps tail tail_at steps2 steps3 steps4 steps5 steps6 steps7 each when run step move fill apply_b apply_h set_pair turn_x turn_y Round2 Cos64 Sin64 cos_at Brev wht wht_row wht4 halfway quantize rounded summary_of live_rows those mask is_set set_rows live any_below Z.summaryAfter Z.renewed Z.withBit Z.blockAfter Z.answer_of Z.coefficient bad_depth bad_side bad_lossless bad_tx_type bad_quantizer any_beyond dequant dequant_all quantizer_at D.answer_of D.blockAfter answer_of32 width_answer within16 kept_rows kept_columns every kept always shorts short Q.answer_of Q.badRule Q.tokenAt Q.tokensOf F.answer_of F.forwardDct F.exact sum basis_at R.answer_of R.badQuantizers R.badPlane R.badCoefficient P.answer_of P.reportAnswer P.badTotal P.badSums P.total P.listAfter P.noted in_class sum_below share shares W.answer_of W.anyAbove W.badLists W.badCounts W.badTotal W.misfit W.tooLarge bad_area file_of clip_of entry_of tokens_from tokens_before bytes_of header_bytes entry_bytes head_bytes joined two four word32
+unfolding numbers inverse2d rows_then_columns rows columns anew line tabulate apply rounding dct dct_row dct_steps tail tail_at steps2 steps3 steps4 steps5 steps6 steps7 each when run step move fill apply_b apply_h set_pair turn_x turn_y Round2 Cos64 Sin64 cos_at Brev wht wht_row wht4 halfway quantize rounded summary_of live_rows those mask is_set set_rows live any_below Z.summary_after Z.renewed Z.with_bit Z.block_after Z.answer_of Z.coefficient bad_depth bad_side bad_lossless bad_tx_type bad_quantizer any_beyond dequant dequant_all quantizer_at D.answer_of D.block_after answer_of32 width_answer within16 kept_rows kept_columns every kept always shorts short Q.answer_of Q.bad_rule Q.token_at Q.tokens_of F.answer_of F.forward_dct F.exact sum basis_at R.answer_of R.bad_quantizers R.bad_plane R.bad_coefficient P.answer_of P.report_answer P.bad_total P.bad_sums P.total P.list_after P.noted in_class sum_below share shares W.answer_of W.any_above W.bad_lists W.bad_counts W.bad_total W.misfit W.too_large bad_area file_of clip_of entry_of tokens_from tokens_before bytes_of header_bytes entry_bytes head_bytes joined two four word32
 worked = refl

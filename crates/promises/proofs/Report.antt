@@ -132,7 +132,7 @@ module _ (u : P.Input) where
   refused : fails ≡ true → W.Report u 15
   unfolding fails bad_total
   refused h =
-      T.or-true (bad_total (length u.block.tokens) u.counts) (bad_sums u.counts u.sums)
+      T.or_true (bad_total (length u.block.tokens) u.counts) (bad_sums u.counts u.sums)
       (λ p. W.past (ltb-true TOTAL_LIMIT (total u.counts + length u.block.tokens) p))
       (λ p. W.sum (some_sum u.counts u.sums p))
       h

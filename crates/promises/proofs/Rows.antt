@@ -65,15 +65,15 @@ module _ (u : Z.Input) where
 
   no_quantizers : bad_quantizer u.dc.0 || bad_quantizer u.ac.0 ≡ true → W.Replace u 3
   no_quantizers h =
-      T.or-true (bad_quantizer u.dc.0) (bad_quantizer u.ac.0) (λ e. W.Replace.dc (T.no-quantizer u.dc.0 e))
-      (λ e. W.Replace.ac (T.no-quantizer u.ac.0 e)) h
+      T.or_true (bad_quantizer u.dc.0) (bad_quantizer u.ac.0) (λ e. W.Replace.dc (T.no_quantizer u.dc.0 e))
+      (λ e. W.Replace.ac (T.no_quantizer u.ac.0 e)) h
 
   past : not (ltb u.place (area (u.size + 2))) ≡ true → area (u.size + 2) ≤ u.place
-  past e = ltb-false u.place (area (u.size + 2)) (T.not-true (ltb u.place (area (u.size + 2))) e)
+  past e = ltb-false u.place (area (u.size + 2)) (T.not_true (ltb u.place (area (u.size + 2))) e)
 
   replace_each : Each (W.Replace u) steps
   replace_each =
-      more (λ e. W.Replace.depth (T.no-depth u.depth e))
+      more (λ e. W.Replace.depth (T.no_depth u.depth e))
       (more (λ e. W.Replace.size (ltb-true 3 u.size e))
       (more no_quantizers
       (more (λ e. W.Replace.count (T.differ (length u.block) (area (u.size + 2)) e))
@@ -82,12 +82,12 @@ module _ (u : Z.Input) where
       (more (λ e. W.Replace.coefficient (ltb-true COEF_LIMIT (nat_abs (Z.coefficient u)) e)) none))))))
 
   replace_has : (n : ℕ) → W.Replace u n → Applies n steps
-  replace_has n (W.Replace.depth h) = here_if 1 _ _ (T.depth-test u.depth h)
+  replace_has n (W.Replace.depth h) = here_if 1 _ _ (T.depth_test u.depth h)
   replace_has n (W.Replace.size h) = there (here_if 2 _ _ (lt-ltb 3 u.size h))
   replace_has n (W.Replace.dc h) =
-      there (there (here_if 3 _ _ (T.left (bad_quantizer u.dc.0) (bad_quantizer u.ac.0) (T.quantizer-test u.dc.0 h))))
+      there (there (here_if 3 _ _ (T.left (bad_quantizer u.dc.0) (bad_quantizer u.ac.0) (T.quantizer_test u.dc.0 h))))
   replace_has n (W.Replace.ac h) =
-      there (there (here_if 3 _ _ (T.right (bad_quantizer u.dc.0) (bad_quantizer u.ac.0) (T.quantizer-test u.ac.0 h))))
+      there (there (here_if 3 _ _ (T.right (bad_quantizer u.dc.0) (bad_quantizer u.ac.0) (T.quantizer_test u.ac.0 h))))
   replace_has n (W.Replace.count h) = there (there (there (here_if 4 _ _ (T.differs (length u.block) (area (u.size + 2)) h))))
   replace_has n (W.Replace.place h) = there (there (there (there (here_if 5 _ _ (ap not (le-ltb u.place (area (u.size + 2)) h))))))
   replace_has n (W.Replace.token h) =
@@ -95,14 +95,14 @@ module _ (u : Z.Input) where
   replace_has n (W.Replace.coefficient h) =
       there (there (there (there (there (there (here_if 7 _ _ (lt-ltb COEF_LIMIT (nat_abs (Z.coefficient u)) h)))))))
 
-  replace_order : InOrder (W.Replace u) W.replaceNumbers (Z.answer_of u)
+  replace_order : InOrder (W.Replace u) W.replace_numbers (Z.answer_of u)
   unfolding Z.answer_of
-  replace_order = in_order (W.Replace u) W.replaceNumbers steps refl tt replace_each replace_has
+  replace_order = in_order (W.Replace u) W.replace_numbers steps refl tt replace_each replace_has
 
 -- `replace_token`
 pub replace_when : (u : Z.Input) (a : Answer) (block : List ℤ) (summary : ℕ) → Z.Replaced u a block summary
-    → InOrder (W.Replace u) W.replaceNumbers (number a)
-replace_when u a block summary p = subst (λ (n : ℕ). InOrder (W.Replace u) W.replaceNumbers n) (sym p.answered) (replace_order u)
+    → InOrder (W.Replace u) W.replace_numbers (number a)
+replace_when u a block summary p = subst (λ (n : ℕ). InOrder (W.Replace u) W.replace_numbers n) (sym p.answered) (replace_order u)
 
 -- ---- `inverse_transform_2d_rows`
 pub rows_when : (u : D.Input) (a : Answer) (rows : ℕ) (after : List ℤ) → Rowed u a rows after → Exactly (W.Driver u) (number a)

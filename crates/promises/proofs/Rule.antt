@@ -18,13 +18,13 @@ use Rattle.promises.proofs.Exactly.{Each, more, here_if, in_order, renumber, lat
 use Rattle.promises.proofs.Tests as T
 use Rattle.promises.proofs.When.{quantize_steps, quantize_has, quantize_each}
 
-no_rule : (rule : ℕ) → Q.badRule rule ≡ true → 1 ≤ rule → rule ≤ 2 → ⊥
-unfolding Q.badRule
+no_rule : (rule : ℕ) → Q.bad_rule rule ≡ true → 1 ≤ rule → rule ≤ 2 → ⊥
+unfolding Q.bad_rule
 no_rule rule h p q =
-    T.or-true (ltb rule 1) (ltb 2 rule) (λ e. absurd (omega (arith, ltb-true rule 1 e))) (λ e. absurd (omega (arith, ltb-true 2 rule e))) h
+    T.or_true (ltb rule 1) (ltb 2 rule) (λ e. absurd (omega (arith, ltb-true rule 1 e))) (λ e. absurd (omega (arith, ltb-true 2 rule e))) h
 
-rule_test : (rule : ℕ) → (1 ≤ rule → rule ≤ 2 → ⊥) → Q.badRule rule ≡ true
-unfolding Q.badRule
+rule_test : (rule : ℕ) → (1 ≤ rule → rule ≤ 2 → ⊥) → Q.bad_rule rule ≡ true
+unfolding Q.bad_rule
 rule_test rule h = go (dec_lt rule 1) (dec_lt 2 rule)
   where
     go : Dec (rule < 1) → Dec (2 < rule) → ltb rule 1 || ltb 2 rule ≡ true
@@ -34,7 +34,7 @@ rule_test rule h = go (dec_lt rule 1) (dec_lt 2 rule)
 
 module _ (rule : ℕ) (u : Q.Input) where
   abbrev steps : List (ℕ × Bool)
-  steps = (1, Q.badRule rule) ∷ renumber suc (quantize_steps u)
+  steps = (1, Q.bad_rule rule) ∷ renumber suc (quantize_steps u)
 
   rule_each : Each (W.Rule rule u) steps
   rule_each = more (λ e. W.Rule.unknown (no_rule rule e)) (each_later (W.Quantize u) (W.Rule rule u) (quantize_steps u) (λ n w. W.Rule.quantizer w) (quantize_each u))
@@ -43,10 +43,10 @@ module _ (rule : ℕ) (u : Q.Input) where
   rule_has n (W.Rule.unknown h) = here_if 1 _ _ (rule_test rule h)
   rule_has n (W.Rule.quantizer {k} w) = there (later k (quantize_steps u) (quantize_has u k w))
 
-  rule_order : InOrder (W.Rule rule u) W.ruleNumbers (Q.ruleAnswer rule u)
+  rule_order : InOrder (W.Rule rule u) W.rule_numbers (Q.rule_answer rule u)
   unfolding Q.answer_of
-  rule_order = in_order (W.Rule rule u) W.ruleNumbers steps refl tt rule_each rule_has
+  rule_order = in_order (W.Rule rule u) W.rule_numbers steps refl tt rule_each rule_has
 
 -- `quantize_block_rule`
-pub rule_when : (rule : ℕ) (u : Q.Input) (a : Answer) (after : List ℤ) → Q.Ruled rule u a after → InOrder (W.Rule rule u) W.ruleNumbers (number a)
-rule_when rule u a after p = subst (λ (n : ℕ). InOrder (W.Rule rule u) W.ruleNumbers n) (sym p.answered) (rule_order rule u)
+pub rule_when : (rule : ℕ) (u : Q.Input) (a : Answer) (after : List ℤ) → Q.Ruled rule u a after → InOrder (W.Rule rule u) W.rule_numbers (number a)
+rule_when rule u a after p = subst (λ (n : ℕ). InOrder (W.Rule rule u) W.rule_numbers n) (sym p.answered) (rule_order rule u)

@@ -103,7 +103,7 @@ quantize_unique u a b s t p q = (same_answer (Q.answer_of u) a b p.answered q.an
 
 -- `quantize_block_rule`
 pub rule_unique : (rule : ℕ) (u : Q.Input) (a b : Answer) (s t : List ℤ) → Q.Ruled rule u a s → Q.Ruled rule u b t → (a ≡ b) × (s ≡ t)
-rule_unique rule u a b s t p q = (same_answer (Q.ruleAnswer rule u) a b p.answered q.answered, same p.written q.written)
+rule_unique rule u a b s t p q = (same_answer (Q.rule_answer rule u) a b p.answered q.answered, same p.written q.written)
 
 -- `max_codeable_coef` and its export
 pub codeable_unique : (depth : ℕ) (r t : ℤ) → r ≡ pos (codeable depth) → t ≡ pos (codeable depth) → r ≡ t

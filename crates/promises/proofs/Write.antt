@@ -76,9 +76,9 @@ module _ (l : Lent) (room : ℕ) where
   misfits : misfit l ≡ true → W.Write l room 4
   unfolding misfit bad_total
   misfits h =
-      T.or-true samples (bad_lists l || (counts || total)) (λ e. W.samples (T.differ (length l.samples) (l.width * l.height) e))
-      (T.or-true (bad_lists l) (counts || total) (λ e. W.lists (unlike l e))
-      (T.or-true counts total (λ e. W.count (other_count l.sizes l.counts e))
+      T.or_true samples (bad_lists l || (counts || total)) (λ e. W.samples (T.differ (length l.samples) (l.width * l.height) e))
+      (T.or_true (bad_lists l) (counts || total) (λ e. W.lists (unlike l e))
+      (T.or_true counts total (λ e. W.count (other_count l.sizes l.counts e))
       (λ e. W.sum (T.differ (tokens_before l.counts (length l.counts)) (length l.tokens) e))))
       h
 
@@ -108,8 +108,8 @@ module _ (l : Lent) (room : ℕ) where
   larges : too_large l ≡ true → W.Write l room 5
   unfolding too_large bad_area
   larges h =
-      T.or-true (eqb plane 0 || ltb AREA_LIMIT plane) (ltb FILE_LIMIT (length (file_of l)))
-      (T.or-true (eqb plane 0) (ltb AREA_LIMIT plane) (λ e. W.empty (eqb-true plane 0 e)) (λ e. W.wide (ltb-true AREA_LIMIT plane e)))
+      T.or_true (eqb plane 0 || ltb AREA_LIMIT plane) (ltb FILE_LIMIT (length (file_of l)))
+      (T.or_true (eqb plane 0) (ltb AREA_LIMIT plane) (λ e. W.empty (eqb-true plane 0 e)) (λ e. W.wide (ltb-true AREA_LIMIT plane e)))
       (λ e. W.long (ltb-true FILE_LIMIT (length (file_of l)) e))
       h
 
@@ -138,7 +138,7 @@ module _ (l : Lent) (room : ℕ) where
       ∷ []
 
   has : (n : ℕ) → W.Write l room n → Applies n steps
-  has n (W.Write.depth h) = here_if 1 _ _ (T.depth-test l.depth h)
+  has n (W.Write.depth h) = here_if 1 _ _ (T.depth_test l.depth h)
   has n (W.Write.retired h) = there (here_if 2 _ _ (eq-eqb l.depth 12 h))
   has n (W.Write.size h) = there (there (here_if 3 _ _ (above_test 3 l.sizes h)))
   has n (W.Write.samples h) = there (there (there (here_if 4 _ _ (misfit_samples h))))
@@ -153,17 +153,17 @@ module _ (l : Lent) (room : ℕ) where
 
   each : Each (W.Write l room) steps
   each =
-      more (λ e. W.Write.depth (T.no-depth l.depth e))
+      more (λ e. W.Write.depth (T.no_depth l.depth e))
       (more (λ e. W.Write.retired (eqb-true l.depth 12 e))
       (more (λ e. W.Write.size (some_above 3 l.sizes e))
       (more misfits
       (more larges
       (more (λ e. W.Write.lossless (some_above 1 l.lossless e)) (more (λ e. W.Write.short (ltb-true room (length (file_of l)) e)) none))))))
 
-  write_order : InOrder (W.Write l room) W.writeNumbers (answer_of l room)
+  write_order : InOrder (W.Write l room) W.write_numbers (answer_of l room)
   unfolding answer_of
-  write_order = in_order (W.Write l room) W.writeNumbers steps refl tt each has
+  write_order = in_order (W.Write l room) W.write_numbers steps refl tt each has
 
 -- `vbk_write`
-pub write_when : (l : Lent) (out : List ℕ) (r : Written) (after : List ℕ) → Wrote l out r after → InOrder (W.Write l (length out)) W.writeNumbers (number r.answer)
-write_when l out r after w = subst (λ (n : ℕ). InOrder (W.Write l (length out)) W.writeNumbers n) (sym w.answered) (write_order l (length out))
+pub write_when : (l : Lent) (out : List ℕ) (r : Written) (after : List ℕ) → Wrote l out r after → InOrder (W.Write l (length out)) W.write_numbers (number r.answer)
+write_when l out r after w = subst (λ (n : ℕ). InOrder (W.Write l (length out)) W.write_numbers n) (sym w.answered) (write_order l (length out))

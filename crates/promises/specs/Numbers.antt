@@ -42,7 +42,7 @@ driven x = record { block = alone x; n = 2; tx_type = 0; lossless = false }
 
 -- the residual of a number alone, and the number that each of its sixteen is
 abbrev dc_block : ℤ → ℤ → Row
-dc_block x said = record { given = D.blockAfter (driven x); said = replicate 16 said }
+dc_block x said = record { given = D.block_after (driven x); said = replicate 16 said }
 
 -- the answer of the driver, and of the 32-bit engine
 abbrev driver : ℤ → ℕ
@@ -57,7 +57,7 @@ quantized size q coef = record { coefs = coef ∷ []; dc = record { 0 = q }; ac 
 
 -- the token of a coefficient by a rule
 abbrev token_by : ℕ → ℕ → ℤ → ℤ → ℤ → Row
-token_by rule size q coef said = record { given = Q.ruledAfter rule (quantized size q coef); said = said ∷ [] }
+token_by rule size q coef said = record { given = Q.ruled_after rule (quantized size q coef); said = said ∷ [] }
 
 -- by rule 1
 abbrev token : ℕ → ℤ → ℤ → ℤ → Row
@@ -104,7 +104,7 @@ residual x = F.answer_of (record { block = alone x; n = 2 })
 
 -- the first coefficients of the numbers 1, 2, 3 and so on
 abbrev counting : ℕ → List ℤ → Row
-counting n said = record { given = take (length said) (F.blockAfter (record { block = tabulate (λ k. pos (k + 1)) (area n); n = n })); said = said }
+counting n said = record { given = take (length said) (F.block_after (record { block = tabulate (λ k. pos (k + 1)) (area n); n = n })); said = said }
 
 -- ---- a VBK file: a plane of 4 by 4 samples and one lossless block
 abbrev file : Lent
@@ -178,7 +178,7 @@ numbers =
     ∷ says 0 (pos 0) (negsuc 0) (negsuc 0)
     ∷ halved (pos 1) (pos 0)
     ∷ halved (pos 2) (pos 2147483648)
-    ∷ record { given = F.blockAfter (record { block = replicate 16 (pos 100); n = 2 }); said = pos 3200 ∷ replicate 15 (pos 0) }
+    ∷ record { given = F.block_after (record { block = replicate 16 (pos 100); n = 2 }); said = pos 3200 ∷ replicate 15 (pos 0) }
     ∷ counting 2 (pos 272 ∷ negsuc 35 ∷ pos 0 ∷ negsuc 2 ∷ negsuc 142 ∷ replicate 7 (pos 0) ++ (negsuc 9 ∷ replicate 3 (pos 0)))
     ∷ counting 3 (pos 2080 ∷ negsuc 145 ∷ [])
     ∷ counting 4 (pos 16447 ∷ negsuc 585 ∷ [])

@@ -2,7 +2,7 @@
 use mathlib.Core.Path.{◌≡◌, refl, sym}
 use mathlib.Core.Bool.{Bool, true, false, cond, not, ◌||◌}
 use mathlib.Core.List.{List}
-use Prim.Native.Nat.{ℕ, zero, suc, ◌+◌, ◌-◌, ◌/◌, ◌%◌, ◌≤◌, ◌<◌}
+use Prim.Native.Nat.{ℕ, zero, suc, ◌+◌, ◌/◌, ◌%◌, ◌≤◌, ◌<◌}
 use native.Mathlib.Decide.{dec_lt, ℕ_discrete}
 use native.Mathlib.Nat as NatL
 use native.Mathlib.Omega.{arith}
@@ -41,9 +41,9 @@ good u h =
     let h3 = rest (bad_size u.size) 1 _ h2 in
     let h4 = rest (bad_lossless u.lossless u.size) 2 _ h3 in
     let h5 = rest (bad_tx_type u.lossless u.size u.tx_type) 3 _ h4 in
-    let h6 = rest (R.badQuantizers u.dc u.ac) 4 _ h5 in
+    let h6 = rest (R.bad_quantizers u.dc u.ac) 4 _ h5 in
     let h7 = rest (not (eqb n (area (u.size + 2)))) 5 _ h6 in
-    let h8 = rest (R.badPlane (length u.samples) u.plane) 6 _ h7 in
+    let h8 = rest (R.bad_plane (length u.samples) u.plane) 6 _ h7 in
     record {
       size_ok = ltb-false 3 u.size (pass (bad_size u.size) 1 _ h2);
       length_ok = eqb-true n (area (u.size + 2)) (not-false (eqb n (area (u.size + 2))) (pass (not (eqb n (area (u.size + 2)))) 5 _ h6));
@@ -78,8 +78,8 @@ module _ (u : Input) where
   list_stays f list h = rw (ne_eqb (answer_of u) 0 h)
 
   -- where the report passes, the samples are reconstruction's
-  pub same_samples : R.answer_of u.block ≡ answer_of u → R.samplesAfter u.block ≡ samples_after u
-  unfolding samples_after R.samplesAfter
+  pub same_samples : R.answer_of u.block ≡ answer_of u → R.samples_after u.block ≡ samples_after u
+  unfolding samples_after R.samples_after
   same_samples h = rw (sym h) (twice (eqb (R.answer_of u.block) 0) _ u.block.samples)
 
   pub list_done : (f : ℕ → ℕ) (list : List ℕ) → answer_of u ≡ 0 → noted f u.block.size (length u.block.tokens) u.block.tokens list ≡ list_after f u list
@@ -148,8 +148,8 @@ unwritten p top y n0 r samples =
     sym (tabulate_is 0 _ samples (length samples) refl
     (λ k h. sym (rw none (off_columns top r p.width y samples (cut p.height y n0) 0 (row_of p k) (column_of p k) k (outside p.width (column_of p k))))))
 
-pub beside_samples : (u : R.Input) → R.samplesAfter (beside u) ≡ u.samples
-unfolding R.samplesAfter R.added
+pub beside_samples : (u : R.Input) → R.samples_after (beside u) ≡ u.samples
+unfolding R.samples_after R.added
 beside_samples u = go (eqb (R.answer_of (beside u)) 0)
   where
     go : (b : Bool)

@@ -57,7 +57,7 @@ list_after f u list = cond (eqb (answer_of u) 0) (noted f u.block.size (length u
 
 -- the samples afterwards: as `reconstruct_block` leaves them; under a refusal as they were
 unfoldable pub samples_after : Input → List ℕ
-samples_after u = cond (eqb (answer_of u) 0) (R.samplesAfter u.block) u.block.samples
+samples_after u = cond (eqb (answer_of u) 0) (R.samples_after u.block) u.block.samples
 
 -- the promise: the answer, the samples and the report afterwards
 pub record Reported (u : Input) (answer : Answer) (samples counts sums : List ℕ) : Type 0 where

@@ -3,6 +3,4 @@ pub mod Records
 pub mod Tokens
 pub mod Runs
 pub mod Printing
-pub mod Again
-pub mod Held
 pub mod Touched

@@ -61,11 +61,11 @@ own_number u =
     (pick (bad_size u.size) 2 _ refl
     (pick (bad_lossless u.lossless u.size) 3 _ refl
     (pick (bad_tx_type u.lossless u.size u.tx_type) 4 _ refl
-    (pick (R.badQuantizers u.dc u.ac) 5 _ refl
+    (pick (R.bad_quantizers u.dc u.ac) 5 _ refl
     (pick (not (eqb n (area (u.size + 2)))) 6 _ refl
-    (pick (R.badPlane (length u.samples) u.plane) 7 _ refl
+    (pick (R.bad_plane (length u.samples) u.plane) 7 _ refl
     (pick (any_beyond (codeable u.depth) n u.tokens) 8 _ refl
-    (pick (R.badCoefficient u.size u.dc u.ac u.tokens) 9 0 refl refl))))))))
+    (pick (R.bad_coefficient u.size u.dc u.ac u.tokens) 9 0 refl refl))))))))
 
 call_number : (u : Input) → number (numbered (answer_of u)) ≡ answer_of u
 unfolding answer_of report_answer

@@ -14,7 +14,7 @@ use Rattle.answers.specs.Sizes.{area}
 use Rattle.answers.specs.Bad.{bad_depth, bad_size, bad_lossless, bad_tx_type, any_beyond}
 use Rattle.reconstruct.specs.Reconstruct as R
 use Rattle.report.specs.Classes.{one, itself}
-use Rattle.report.specs.Report.{ENTRIES, TOTAL_LIMIT, Input, total, bad_total, bad_sums, report_answer, answer_of, samples_after, list_after}
+use Rattle.report.specs.Report.{ENTRIES, TOTAL_LIMIT, total, bad_total, bad_sums, report_answer, samples_after, list_after}
 use Rattle.report.proofs.Table.{passes}
 use Rattle.report.proofs.Good.{total_grows, stays_good}
 use Rattle.vbk_read.specs.Header.{samples_of, first_record, header_answer}
@@ -45,11 +45,11 @@ own_below u =
     (below (bad_size u.size) 2 _ (omega arith)
     (below (bad_lossless u.lossless u.size) 3 _ (omega arith)
     (below (bad_tx_type u.lossless u.size u.tx_type) 4 _ (omega arith)
-    (below (R.badQuantizers u.dc u.ac) 5 _ (omega arith)
+    (below (R.bad_quantizers u.dc u.ac) 5 _ (omega arith)
     (below (not (eqb n (area (u.size + 2)))) 6 _ (omega arith)
-    (below (R.badPlane (length u.samples) u.plane) 7 _ (omega arith)
+    (below (R.bad_plane (length u.samples) u.plane) 7 _ (omega arith)
     (below (any_beyond (codeable u.depth) n u.tokens) 8 _ (omega arith)
-    (below (R.badCoefficient u.size u.dc u.ac u.tokens) 9 0 (omega arith) (omega arith)))))))))
+    (below (R.bad_coefficient u.size u.dc u.ac u.tokens) 9 0 (omega arith) (omega arith)))))))))
 
 end_below : (s : List ℕ) (at : ℕ) → end_answer s at < 15
 unfolding end_answer

@@ -58,7 +58,7 @@ module _ (s : List ℕ) (at : ℕ) (l : List ℕ) where
   bad_plain p q = rw (p, q)
 
   good_plain : ends s at ≡ false → ltb 1 (lossless_at s at) ≡ false
-      → record_at reconstruction s at (samples_in l) ≡ record { answer = R.answer_of (given_at s at l).block; samples = R.samplesAfter (given_at s at l).block }
+      → record_at reconstruction s at (samples_in l) ≡ record { answer = R.answer_of (given_at s at l).block; samples = R.samples_after (given_at s at l).block }
   unfolding record_at rebuilt_at rebuild_at reconstruction
   good_plain p q = rw (p, q)
 

@@ -2,7 +2,7 @@
 use mathlib.Core.Path.{◌≡◌, refl, sym, ap, ◌∙◌}
 use mathlib.Core.Bool.{true}
 use mathlib.Core.List.{List, [], ◌∷◌, ◌++◌, map}
-use Prim.Native.Nat.{ℕ, zero, suc, ◌+◌, ◌≤◌, ◌<◌}
+use Prim.Native.Nat.{ℕ, zero, suc, ◌+◌, ◌<◌}
 use native.Mathlib.Nat as NatL
 use native.Mathlib.Omega.{arith}
 use lib.IntN.{ℤ, pos}
@@ -12,8 +12,7 @@ use Rattle.whole.specs.Lists.{tabulate}
 use Rattle.whole.proofs.Lists.{tabulate_is, tabulate_same}
 use Rattle.vbk_write.specs.Bytes.{joined}
 use Rattle.vbk_write.specs.Clip.{Entry, Clip, says, whole}
-use Rattle.vbk_write.specs.Lent.{Lent, Alike, tokens_before, tokens_from, entry_of, clip_of, file_of, lent_of}
-use Rattle.vbk_write.specs.Promises.{answer_of}
+use Rattle.vbk_write.specs.Lent.{Alike, tokens_before, tokens_from, entry_of, clip_of, lent_of}
 use Rattle.vbk_write.specs.Trips.{Bytes, WrittenBack}
 use Rattle.vbk_write.proofs.Back.{entry_same, clip_same}
 use Rattle.vbk_write.proofs.Trips.{Copied, file_is, taken_back, refused_back}

@@ -1,13 +1,12 @@
 -- What is read is written back: a file with a good header and whole records comes out of reading and writing byte for byte the same.
-use mathlib.Core.Path.{◌≡◌, refl, sym, ap, ap₂, ◌∙◌}
+use mathlib.Core.Path.{◌≡◌, refl, sym, ap, ◌∙◌}
 use mathlib.Core.Bool.{Bool, true, false, not, cond, ◌&&◌}
-use mathlib.Core.List.{List, [], ◌∷◌, ◌++◌, append_assoc, append-nil}
-use Prim.Native.Nat.{ℕ, zero, suc, ◌+◌, ◌-◌, ◌*◌, ◌/◌, ◌%◌, ◌≤◌, ◌<◌, ◌^◌}
+use mathlib.Core.List.{List, [], ◌∷◌, ◌++◌, append_assoc}
+use Prim.Native.Nat.{ℕ, zero, suc, ◌+◌, ◌*◌, ◌/◌, ◌%◌, ◌≤◌, ◌<◌}
 use native.Mathlib.Nat as NatL
 use native.Mathlib.Omega.{arith}
-use borrow.Author.Tests.{lt-ltb, le-ltb, ltb-true, ltb-false, eqb-true}
+use borrow.Author.Tests.{ltb-false, eqb-true}
 use lib.Dec.{ltb, eqb}
-use lib.IntN.{ℤ, pos, negsuc}
 use lib.ListN.{length, get_or, drop, drop_of_length-le}
 use lib.Seq.{drop-cons}
 use Rattle.whole.specs.Lists.{tabulate}
@@ -15,11 +14,11 @@ use Rattle.whole.specs.Steps.{each}
 use Rattle.answers.specs.Sizes.{area}
 use Rattle.answers.proofs.Numbers.{pass, rest}
 use Rattle.vbk_read.specs.Bytes.{le1, le2, le4, signed32}
-use Rattle.vbk_read.specs.Header.{marked, version_of, depth_of, width_of, height_of, plane_area, sample_at, samples_of, first_record, header_answer}
-use Rattle.vbk_read.specs.Records.{size_at, lossless_at, token_at, tokens_at, next_at, found, end_answer, ends, lossless_answer, check_answer, read_on}
+use Rattle.vbk_read.specs.Header.{marked, depth_of, width_of, height_of, plane_area, sample_at, samples_of, first_record, header_answer}
+use Rattle.vbk_read.specs.Records.{size_at, lossless_at, token_at, tokens_at, next_at, found, end_answer, lossless_answer, check_answer, read_on}
 use Rattle.vbk_read.proofs.Headers.{good}
 use Rattle.vbk_write.specs.Bytes.{one, two, word32, four, joined}
-use Rattle.vbk_write.specs.Clip.{Entry, Clip, entry_at, entries_from, says, whole_from, whole, head_bytes, entry_bytes, header_bytes, bytes_of}
+use Rattle.vbk_write.specs.Clip.{entry_at, entries_from, says, whole_from, whole, head_bytes, entry_bytes, header_bytes, bytes_of}
 use Rattle.vbk_write.specs.Trips.{Bytes}
 use Rattle.vbk_write.proofs.Joined.{joined_tabulate}
 use Rattle.vbk_write.proofs.Back.{no_entries}

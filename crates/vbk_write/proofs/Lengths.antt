@@ -1,5 +1,5 @@
 -- How long a file is.
-use mathlib.Core.Path.{◌≡◌, refl, sym, ap, ◌∙◌}
+use mathlib.Core.Path.{◌≡◌, refl, ap}
 use mathlib.Core.Bool.{Bool, true, false, not, ◌||◌}
 use mathlib.Core.List.{List, [], ◌∷◌, ◌++◌}
 use Prim.Native.Nat.{ℕ, zero, suc, ◌+◌, ◌*◌}
@@ -14,7 +14,7 @@ use Rattle.whole.proofs.Lists.{length_tabulate}
 use Rattle.vbk_write.specs.Bytes.{two, four, joined}
 use Rattle.vbk_write.specs.Clip.{head_bytes, entry_bytes, header_bytes, bytes_of}
 use Rattle.vbk_write.specs.Lent.{Lent, Alike, tokens_before, tokens_from, entry_of, clip_of, file_of}
-use Rattle.vbk_write.specs.Promises.{any_other, bad_lists, bad_counts, bad_total, misfit}
+use Rattle.vbk_write.specs.Promises.{bad_lists, bad_counts, bad_total, misfit}
 use Rattle.vbk_write.specs.Inner.{file_length}
 use Rattle.vbk_write.proofs.Joined.{joined_tabulate}
 

@@ -1,5 +1,5 @@
 -- Bytes that stand in a file from a place on, and the numbers read there.
-use mathlib.Core.Path.{◌≡◌, refl, sym, ap, ◌∙◌, subst}
+use mathlib.Core.Path.{◌≡◌, sym, ap, ◌∙◌, subst}
 use mathlib.Core.List.{List, [], ◌∷◌, ◌++◌}
 use Prim.Native.Nat.{ℕ, zero, suc, ◌+◌, ◌-◌, ◌*◌, ◌/◌, ◌%◌, ◌≤◌, ◌<◌, ◌^◌}
 use native.Mathlib.Nat as NatL
@@ -9,7 +9,7 @@ use lib.IntN.{ℤ, pos, negsuc}
 use lib.ListN.{length, get_or, length-append, get_or-append}
 use lib.Seq.{get_or-append-add}
 use lib.Signed.{mag}
-use Rattle.vbk_read.specs.Bytes.{le1, le2, le4, signed32}
+use Rattle.vbk_read.specs.Bytes.{le2, le4, signed32}
 use Rattle.vbk_write.specs.Bytes.{two, word32, four, joined}
 
 -- the bytes t stand in s from `at` on

@@ -1,6 +1,5 @@
 use mathlib.Core.Path.{sym, ◌∙◌}
 use Rattle.clip_dump.proofs.Whole.{header_plane}
-use borrow.Author.Rules.{rules}
 use Rattle.clip_dump.proofs.dump_text.Goals as goal
 
 pub put_file-s-requires : goal.put_file-s-requires

@@ -2,7 +2,6 @@ use mathlib.Core.Path.{◌≡◌, ap, ◌∙◌}
 use Prim.Native.Nat.{ℕ, ◌*◌}
 use native.Mathlib.Omega.{arith}
 use Rattle.clip_dump.proofs.Whole.{some_width}
-use borrow.Author.Rules.{rules}
 use Rattle.clip_dump.proofs.put_file.Goals as goal
 
 pub put_plane-b-requires : goal.put_plane-b-requires

@@ -3,7 +3,6 @@ use Prim.Native.Nat.{ℕ, ◌+◌, ◌*◌}
 use native.Mathlib.Omega.{arith}
 use Rattle.answers.specs.Sizes.{side}
 use Rattle.clip_dump.proofs.Whole.{some_side, whole_size, whole_next, whole_there}
-use borrow.Author.Rules.{rules}
 use Rattle.clip_dump.proofs.put_one.Goals as goal
 
 pub side-side-requires : goal.side-side-requires

@@ -1,8 +1,4 @@
-use mathlib.Core.Path.{◌≡◌}
-use Prim.Native.Nat.{◌+◌, ◌-◌, ◌*◌, ◌≤◌}
 use native.Mathlib.Omega.{arith}
-use borrow.Author.Rules.{rules}
-use lib.ListN.{length}
 use Rattle.clip_dump.proofs.Whole.{row_there, one_more, all_rows}
 use Rattle.clip_dump.proofs.put_plane.Goals as goal
 

@@ -1,5 +1,4 @@
 use native.Mathlib.Omega.{arith}
-use borrow.Author.Rules.{rules}
 use Rattle.lines.proofs.Negative.{neg_fits}
 use Rattle.clip_parse.proofs.Narrow.{neg_narrow}
 use Rattle.clip_parse.proofs.negative.Goals as goal

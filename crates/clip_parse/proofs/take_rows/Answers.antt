@@ -1,9 +1,6 @@
-use mathlib.Core.Path.{◌≡◌, ◌∙◌}
-use Prim.Native.Nat.{◌-◌}
+use mathlib.Core.Path.{◌∙◌}
 use native.Mathlib.Omega.{arith}
 use borrow.Author.Rules.{rules}
-use lib.ListN.{length}
-use Rattle.clip_state.specs.Inner.{Held}
 use Rattle.clip_parse.proofs.take_rows.Goals as goal
 
 pub shape_of-words-then-s-gt-MOST : goal.shape_of-words-then-s-gt-MOST

@@ -1,5 +1,4 @@
 use Prim.Native.Nat.{◌-◌, ◌≤◌}
-use borrow.Author.Rules.{rules}
 use lib.ListN.{length}
 use Rattle.clip_state.specs.Inner.{Held}
 use Rattle.clip_parse.proofs.take_samples.Given as goal

@@ -1,5 +1,4 @@
 use Prim.Native.Nat.{◌-◌, ◌≤◌}
-use borrow.Author.Rules.{rules}
 use Rattle.clip_rows.proofs.trimmed.Given as goal
 
 abbrev pub invariant-loop-stop : goal.invariant-loop-stop

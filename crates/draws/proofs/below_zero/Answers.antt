@@ -1,4 +1,4 @@
-use Rattle.std.proofs.Common.{◌≡◌, ℕ, ◌<◌, pos, ◌-ℤ◌, neg_ℤ, arith, w64, SFits, to_z, rules}
+use Rattle.std.proofs.Common.{ℕ, ◌<◌, pos, ◌-ℤ◌, arith, w64, SFits, to_z}
 use mir.ValLaws.{to_z_pos}
 use Rattle.whole.proofs.Ring.{at, neg, sfits_by}
 use Rattle.whole.proofs.Parts.{zero_minus}

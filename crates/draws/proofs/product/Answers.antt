@@ -1,4 +1,4 @@
-use Rattle.std.proofs.Common.{ℕ, ◌*◌, ◌%◌, ◌≤◌, mul-le-mul, arith, rules}
+use Rattle.std.proofs.Common.{ℕ, ◌*◌, ◌%◌, ◌≤◌, mul-le-mul, arith}
 use Rattle.draws.proofs.product.Goals as goal
 
 small : (a b : ℕ) → a % 64 * (b % 64) ≤ 63 * 63

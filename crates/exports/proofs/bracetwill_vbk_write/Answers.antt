@@ -15,7 +15,7 @@ request s =
     }
 
 pub returns-then-number-ne0 : goal.returns-then-number-ne0
-returns-then-number-ne0 c = refused (request c.before.before.before.before.before.before.before.before.before.before.before.before.before.before.before.before) c.vbk_write-written.ensures c.code-number.ensures c.if-number-ne0.true
+returns-then-number-ne0 c = refused (request c.before.before.before.before.before.before.before.before.before.before.before.before.before.before.before.before.before) c.vbk_write-written.ensures c.code-number.ensures c.if-number-ne0.true
 
 pub returns : goal.returns
-returns c = done (request c.before.before.before.before.before.before.before.before.before.before.before.before.before.before.before.before.before) c.vbk_write-written.ensures c.code-number.ensures c.if-number-ne0.false refl
+returns c = done (request c.before.before.before.before.before.before.before.before.before.before.before.before.before.before.before.before.before.before) c.vbk_write-written.ensures c.code-number.ensures c.if-number-ne0.false refl

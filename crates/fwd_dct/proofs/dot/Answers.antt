@@ -27,14 +27,14 @@ two_terms-s-requires c =
 pub overflow_add-s : goal.overflow_add-s
 overflow_add-s c =
     let l = c.loop-p in
-    let is : Is (l.p * 2 ^ 48) (to_z w64 l.s) (to_z w64 l.s) = record { eq = refl; bd = l.invariant.2 } in
+    let is : Is (l.p * 2 ^ 48) (to_z w64 l.s-bits) (to_z w64 l.s-bits) = record { eq = refl; bd = l.invariant.2 } in
     is_ok w64 (omega arith) (add is (is_in w64 (lit< tt) c.two_terms-s.ensures.1))
 
 pub loop-p-preserved : goal.loop-p-preserved
 loop-p-preserved c =
     let l = c.loop-p in
     let a = c.args in
-    let is : Is (l.p * 2 ^ 48) (to_z w64 l.s) (to_z w64 l.s) = record { eq = refl; bd = l.invariant.2 } in
+    let is : Is (l.p * 2 ^ 48) (to_z w64 l.s-bits) (to_z w64 l.s-bits) = record { eq = refl; bd = l.invariant.2 } in
     let t = is_rd w64 (omega arith) (add is (is_in w64 (lit< tt) c.two_terms-s.ensures.1)) in
     let f : ℕ → ℤ = λ i. get_or a.x.now i (pos 0) *ℤ get_or a.basis.now (a.row + i) (pos 0) in
     let e : 2 * (l.p + 1) ≡ 2 * l.p + 2 = omega arith in (

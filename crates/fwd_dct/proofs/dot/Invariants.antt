@@ -16,7 +16,7 @@ use Rattle.fwd_dct.proofs.Sums.{sum_none, sum_two, sum_within}
 use Rattle.fwd_dct.proofs.dot.Given as goal
 
 abbrev pub invariant-loop-p : goal.invariant-loop-p
-invariant-loop-p l = (l.p ≤ l.pairs) × (to_z w64 l.s ≡ sum (2 * l.p) (λ i. get_or l.x i (pos 0) *ℤ get_or l.basis (l.row + i) (pos 0))) × Within (l.p * 2 ^ 48) (to_z w64 l.s)
+invariant-loop-p l = (l.p ≤ l.pairs) × (l.s ≡ sum (2 * l.p) (λ i. get_or l.x i (pos 0) *ℤ get_or l.basis (l.row + i) (pos 0))) × Within (l.p * 2 ^ 48) (l.s)
 
 abbrev pub decreases-loop-p : goal.decreases-loop-p
 decreases-loop-p l = l.pairs - l.p

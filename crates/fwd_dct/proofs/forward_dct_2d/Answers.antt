@@ -59,6 +59,6 @@ returns c =
     let w = c.rows in
     record {
       answered = c.check-answer.ensures;
-      written = in_steps (given c.before.before.before.before.before.before.before.before.before.before.before.before.before.before) z w.new.0 v.new.0 c.round_all.new.block c.area.result c.bits.result
+      written = in_steps (given c.before.before.before.before.before.before.before.before.before.before.before.before.before.before) z w.new.block v.new.block c.round_all.new.block c.area.result c.bits.result
           w.ensures v.ensures c.area.ensures.0 c.bits.ensures.0 c.round_all.ensures;
     }

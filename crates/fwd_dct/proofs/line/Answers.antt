@@ -26,7 +26,18 @@ use Rattle.blocks.specs.Inner.{set_line, change_line}
 use Rattle.fwd_dct.specs.Inner.{line_of}
 use Rattle.fwd_dct.proofs.Lines.{halves, quarters, side_most, half_coef, half_within, row_room, turn_even, turn_odd}
 use Rattle.fwd_dct.proofs.line.Goals as goal
-use Rattle.fwd_dct.proofs.line.Goals.{After-dot, After-dot-in-loop-m, In-loop-m}
+use Rattle.fwd_dct.proofs.line.Lts as lts
+use Rattle.fwd_dct.proofs.line.Tie as tie
+use Rattle.fwd_dct.proofs.line.Reads as reads
+use Rattle.fwd_dct.proofs.line.Goals.{After-dot-in-loop-m}
+
+-- the place behind a step, with what was known there
+abbrev After-dot : Type 0
+After-dot = lts.After-dot tie.the-claims reads.Pre reads.Post goal.the-invariant-loop-m goal.the-decreases-loop-m tie.handed_clauses
+
+-- the place behind a step, with what was known there
+abbrev In-loop-m : Type 0
+In-loop-m = lts.In-loop tie.the-claims reads.Pre reads.Post goal.the-invariant-loop-m goal.the-decreases-loop-m tie.handed_clauses
 
 pub fold-requires : goal.fold-requires
 fold-requires c =
@@ -61,7 +72,7 @@ taken d = rw d.side-n0.ensures.0 at d.fold.ensures.taken
 
 pub overflow_mul-k-in-loop-m : goal.overflow_mul-k-in-loop-m
 overflow_mul-k-in-loop-m c =
-    omega (arith, row_low c.before (2 * c.loop-m.m) (omega (arith, pair_below c.before)))
+    omega (arith, row_low c.before.before (2 * c.loop-m.m) (omega (arith, pair_below c.before.before)))
 
 pub dot-requires : goal.dot-requires
 dot-requires c =
@@ -70,30 +81,30 @@ dot-requires c =
     let h = c.requires.1 in
     rw e (
       omega (arith, side_most c.args.n l h),
-      row_low c.before (2 * c.loop-m.m) (omega (arith, pair_below c.before)),
-      half_within c.args.n l h _ (replicate 16 (pos 0)) _ refl (summed c.before)
+      row_low c.before.before (2 * c.loop-m.m) (omega (arith, pair_below c.before.before)),
+      half_within c.args.n l h _ (replicate 16 (pos 0)) _ refl (summed c.before.before)
           (λ i q. within_add (c.requires.4 i (omega (arith, halves c.args.n l h))) (c.requires.4 (2 * (side c.args.n / 2) - 1 - i) (omega (arith, halves c.args.n l h)))),
     )
 
 pub overflow_mul-block : goal.overflow_mul-block
 overflow_mul-block c =
-    let q = pair_below c.before.before in
-    omega (arith, place c.before.before (2 * c.loop-m.m) (omega arith))
+    let q = pair_below c.before.before.before in
+    omega (arith, place c.before.before.before (2 * c.loop-m.m) (omega arith))
 
 pub overflow_add-block : goal.overflow_add-block
 overflow_add-block c =
-    let q = pair_below c.before.before in
-    omega (arith, place c.before.before (2 * c.loop-m.m) (omega arith))
+    let q = pair_below c.before.before.before in
+    omega (arith, place c.before.before.before (2 * c.loop-m.m) (omega arith))
 
 pub offset_bounds-block-start : goal.offset_bounds-block-start
 offset_bounds-block-start c =
-    let q = pair_below c.before.before in
-    omega (arith, place c.before.before (2 * c.loop-m.m) (omega arith))
+    let q = pair_below c.before.before.before in
+    omega (arith, place c.before.before.before (2 * c.loop-m.m) (omega arith))
 
 pub bounds-block-start : goal.bounds-block-start
 bounds-block-start c =
-    let q = pair_below c.before.before in
-    omega (arith, place c.before.before (2 * c.loop-m.m) (omega arith))
+    let q = pair_below c.before.before.before in
+    omega (arith, place c.before.before.before (2 * c.loop-m.m) (omega arith))
 
 pub overflow_mul-k-in-loop-m-2 : goal.overflow_mul-k-in-loop-m-2
 overflow_mul-k-in-loop-m-2 c =

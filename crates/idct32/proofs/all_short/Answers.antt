@@ -1,5 +1,5 @@
 -- `idct32::all_short` meets its contract.
-use mathlib.Core.Path.{◌≡◌, sym, ◌∙◌}
+use mathlib.Core.Path.{◌≡◌, sym, ◌∙◌, ap}
 use mathlib.Core.Bool.{Bool, true, false, not, ◌&&◌}
 use mathlib.Core.List.{List}
 use mathlib.Core.Logic.{⊎_elim}
@@ -31,7 +31,7 @@ pub loop-k-preserved : goal.loop-k-preserved
 loop-k-preserved c =
     let t = c.args.block.now in (
       omega arith,
-      elim c.if-not-is_short.branch [ then-not-is_short w ↦ failed t c.loop-k.k (seen c.before) w.if-not-is_short.true w.JOIN-is | else-not-is_short w ↦ passed t c.loop-k.k (seen c.before) w.if-not-is_short.false w.JOIN-is c.loop-k.invariant.1 ],
+      elim c.if-not-is_short.branch [ then-not-is_short w ↦ failed t c.loop-k.k (seen c.before) (ap not w.if-not-is_short.true) w.all-is | else-not-is_short w ↦ passed t c.loop-k.k (seen c.before) (ap not w.if-not-is_short.false) w.all-is c.loop-k.invariant.1 ],
     )
 
 pub loop-k-init : goal.loop-k-init

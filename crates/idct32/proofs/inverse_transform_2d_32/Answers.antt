@@ -29,11 +29,15 @@ use Rattle.idct32.proofs.inverse_transform_2d_32.Lts as lts
 use Rattle.idct32.proofs.inverse_transform_2d_32.Tie as tie
 use Rattle.idct32.proofs.inverse_transform_2d_32.Reads as reads
 use Rattle.idct32.proofs.inverse_transform_2d_32.Goals as goal
-use Rattle.idct32.proofs.inverse_transform_2d_32.Goals.{After-any_beyond, After-total-sum, Else-code-ne0, Else-not-take, Start, Then-not-take}
+use Rattle.idct32.proofs.inverse_transform_2d_32.Goals.{After-any_beyond, After-total-sum, Else-code-ne0, Start, Then-not-take}
+
+-- the place behind a step, with what was known there
+abbrev Else-not-take : Type 0
+Else-not-take = lts.Else2 tie.the-claims reads.Pre reads.Post tie.handed_clauses
 
 -- the place behind a call, with what was known there
 abbrev After-take : Type 0
-After-take = lts.After-take tie.the-claims reads.Pre reads.Post
+After-take = lts.After-take tie.the-claims reads.Pre reads.Post tie.handed_clauses
 
 -- what the call is given
 abbrev given : Start → Input
@@ -61,7 +65,7 @@ test : (c : After-take) → let u = given c.before.before.before.before.before.b
 test c = rw c.area-count.ensures.0 at c.take.ensures.is
 
 fails : (c : Then-not-take) → let u = given c.before.before.before.before.before.before.before.before in shorts (area u.n) u.block ≡ false
-fails c = sym (test c.before) ∙ not-true c.take.result c.if-not-take.true
+fails c = sym (test c.before) ∙ c.if-not-take.true
 
 pub any_beyond-requires : goal.any_beyond-requires
 any_beyond-requires c =
@@ -85,7 +89,7 @@ returns-then-not-take c =
 -- the block's numbers are in the work
 work : (c : Else-not-take) → Entered (given c.before.before.before.before.before.before.before.before) c.take.new.work
 work c =
-    let r = not-false c.take.result c.if-not-take.false in
+    let r = c.if-not-take.false in
     entered (given c.before.before.before.before.before.before.before.before) c.take.new.work (passed c.before.before.before.before.before) (sym (test c.before) ∙ r) (rw (c.area-count.ensures.0, c.zeros-work.ensures) at (c.take.ensures.then r))
 
 sum_is : (c : After-total-sum) → c.total-sum.result ≡ total (area (given c.before.before.before.before.before.before.before.before.before.before).n) c.take.new.work
@@ -112,14 +116,14 @@ passes-requires c = let k = work c.before.before.before.before.before.before in 
 
 pub returns-then-not-passes : goal.returns-then-not-passes
 returns-then-not-passes c =
-    leaves (work c.before.before.before.before.before.before.before.before) (sym (not-true c.passes.result c.if-not-passes.true) ∙ c.passes.ensures.is)
+    leaves (work c.before.before.before.before.before.before.before.before) (sym (c.if-not-passes.true) ∙ c.passes.ensures.is)
 
 pub give-requires : goal.give-requires
 give-requires c = let k = work c.before.before.before.before.before.before.before.before.before.before in (k.possible.least, k.possible.most, k.possible.small, k.room)
 
 pub returns : goal.returns
 returns c =
-    let a = not-false c.passes.result c.if-not-passes.false in
+    let a = c.if-not-passes.false in
     stays (work c.before.before.before.before.before.before.before.before.before.before.before.before) (sym a ∙ c.passes.ensures.is) (c.passes.ensures.then a) c.give.ensures
 
 pub area-count-requires : goal.area-count-requires

@@ -40,7 +40,7 @@ returns-then-sum-le31883 c =
 made : (c : Else-not-rows) → (kept_rows (row_pass c.args.tx_type c.args.lossless) c.args.n c.args.work.now ≡ true)
     × (c.rows.new.work ≡ rows (apply (row_pass c.args.tx_type c.args.lossless) c.args.n) (side c.args.n) c.args.work.now)
 made c =
-    let e = not-false c.rows.result c.if-not-rows.false in
+    let e = c.if-not-rows.false in
     (sym c.rows.ensures.is ∙ e, c.rows.ensures.then e)
 
 pub columns-requires : goal.columns-requires
@@ -50,7 +50,7 @@ columns-requires c =
 pub returns-then-not-rows : goal.returns-then-not-rows
 unfolding within16
 returns-then-not-rows c =
-    record { is = sym (rw (sym c.rows.ensures.is ∙ not-true c.rows.result c.if-not-rows.true)); then = λ e. never e }
+    record { is = sym (rw (sym c.rows.ensures.is ∙ c.if-not-rows.true)); then = λ e. never e }
 
 pub returns : goal.returns
 unfolding within16

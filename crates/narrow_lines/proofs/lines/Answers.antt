@@ -20,7 +20,7 @@ eight-requires c =
       l,
       c.loop-q.invariant.1.long,
       first_keeps c.args.down (lossy c.args.use_dct) c.args.n c.loop-q.q (raster (side c.args.n) c.args.z.now) c.loop-q.invariant.1 l
-          (λ i h. c.requires.5 c (omega (arith, c.loop-q-test.true))),
+          (λ i h. c.requires.5 i (omega (arith, c.loop-q-test.true))),
     )
 
 pub loop-q-preserved : goal.loop-q-preserved

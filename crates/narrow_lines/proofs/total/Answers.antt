@@ -15,7 +15,7 @@ pub loop-k-preserved : goal.loop-k-preserved
 loop-k-preserved c =
     let l = c.loop-k in
     let z = c.args.z.now in
-    let e : c.magnitude-all.result ≡ nat_abs (get_or z l.k (pos 0)) = c.magnitude-all.ensures.0 ∙ ap nat_abs (to_z-of_z {c = w16} {z = get_or z l.k (pos 0)} (record { sfits = c.magnitude-arg-1.given })) in
+    let e : c.magnitude-all.result ≡ nat_abs (get_or z l.k (pos 0)) = c.magnitude-all.ensures.0 ∙ ap nat_abs (to_z-of_z {w = w16} {z = get_or z l.k (pos 0)} (record { sfits = c.magnitude-arg-1.given })) in
     (search rules, rw (l.invariant.1, e) (sym (total_more l.k z)), omega (arith, c.magnitude-all.ensures.1))
 
 pub returns : goal.returns

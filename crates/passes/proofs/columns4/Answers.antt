@@ -14,16 +14,16 @@ job : (c : Start) → Job (lossy c.args.use_dct) 4 16 (λ z. Round2 z 6) (λ j. 
 job c = columns_job _ 4 _ _ (omega arith) (omega arith) (small_valid 0 c.args.use_dct 4 (omega arith) (omega arith)) c.requires.0 c.requires.1
 
 pub line4-requires : goal.line4-requires
-line4-requires c = turn_safe (job c.before.before.before.before.before.before) c.loop-j.invariant c.loop-j-test.true c.load.ensures
+line4-requires c = turn_safe (job c.before.before.before.before.before) c.loop-j.invariant c.loop-j-test.true c.load.ensures
 
 pub store_rounded-requires : goal.store_rounded-requires
 store_rounded-requires c =
-    let g = turn_grown (job c.before.before.before.before.before.before.before.before.before.before) c.loop-j.invariant c.loop-j-test.true c.load.ensures c.line4.ensures in
+    let g = turn_grown (job c.before.before.before.before.before.before.before.before) c.loop-j.invariant c.loop-j-test.true c.load.ensures c.line4.ensures in
     (omega arith, λ k h. omega arith, omega arith, omega arith, g)
 
 pub loop-j-preserved : goal.loop-j-preserved
 loop-j-preserved c =
-    turn_next (job c.before.before.before.before.before.before.before.before.before.before.before.before) c.loop-j.invariant c.loop-j-test.true c.load.ensures c.line4.ensures c.store_rounded.ensures
+    turn_next (job c.before.before.before.before.before.before.before.before.before.before) c.loop-j.invariant c.loop-j-test.true c.load.ensures c.line4.ensures c.store_rounded.ensures
 
 pub returns : goal.returns
 returns c = turn_done (job c.before.before) c.loop-j.invariant c.loop-j-test.false

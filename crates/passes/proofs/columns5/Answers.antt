@@ -15,18 +15,18 @@ job c = columns_job _ 5 _ _ (omega arith) (omega arith) (omega arith, omega arit
 
 pub idct_fast5-requires : goal.idct_fast5-requires
 unfolding Safe
-idct_fast5-requires c = turn_safe (job c.before.before.before.before.before.before) c.loop-j.invariant c.loop-j-test.true c.load.ensures
+idct_fast5-requires c = turn_safe (job c.before.before.before.before.before) c.loop-j.invariant c.loop-j-test.true c.load.ensures
 
 pub store_rounded-requires : goal.store_rounded-requires
 unfolding apply
 store_rounded-requires c =
-    let g = turn_grown (job c.before.before.before.before.before.before.before.before.before.before) c.loop-j.invariant c.loop-j-test.true c.load.ensures c.idct_fast5.ensures in
+    let g = turn_grown (job c.before.before.before.before.before.before.before.before) c.loop-j.invariant c.loop-j-test.true c.load.ensures c.idct_fast5.ensures in
     (omega arith, λ k h. omega arith, omega arith, omega arith, g)
 
 pub loop-j-preserved : goal.loop-j-preserved
 unfolding apply
 loop-j-preserved c =
-    turn_next (job c.before.before.before.before.before.before.before.before.before.before.before.before) c.loop-j.invariant c.loop-j-test.true c.load.ensures c.idct_fast5.ensures c.store_rounded.ensures
+    turn_next (job c.before.before.before.before.before.before.before.before.before.before) c.loop-j.invariant c.loop-j-test.true c.load.ensures c.idct_fast5.ensures c.store_rounded.ensures
 
 pub returns : goal.returns
 returns c = turn_done (job c.before.before) c.loop-j.invariant c.loop-j-test.false

@@ -51,9 +51,9 @@ pub loop-i-preserved : goal.loop-i-preserved
 loop-i-preserved c =
     let a = c.args in
     let t = c.loop-i in (
-      (omega arith, c.add_row.auto.samples ∙ t.inv.0.1),
+      (omega arith, c.add_row.auto.samples ∙ t.invariant.0.1),
       block_more a.top (λ i j. get_or a.z.now (place a.n0 i j) (pos 0)) a.x a.y a.samples.now a.plane a.cols t.i
-          (omega (arith, c.requires.0.wide, (column_in c.before.before.before.before).0)) t.samples c.add_row.new.samples t.inv.1
+          (omega (arith, c.requires.0.wide, (column_in c.before.before.before.before.before).0)) t.samples c.add_row.new.samples t.invariant.1
           (rw c.place.ensures at c.add_row.ensures),
     )
 

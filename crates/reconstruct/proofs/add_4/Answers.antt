@@ -39,7 +39,7 @@ dequantize-requires c =
 pub passes_4-requires : goal.passes_4-requires
 passes_4-requires c =
     let a = c.args in
-    rw (coefs c.before)
+    rw (coefs c.before.before)
     (block_length 0 a.dc_quant a.ac_quant a.tx_type a.lossless a.tokens.now c.requires.1, block_within 0 a.dc_quant a.ac_quant a.tx_type a.lossless a.tokens.now c.requires.1)
 
 pub add_back4-requires : goal.add_back4-requires
@@ -57,6 +57,6 @@ unfolding added
 returns c =
     let a = c.args in
     c.add_back4.ensures
-    ∙ rw (residuals c.before.before.before.before.before)
+    ∙ rw (residuals c.before.before.before.before.before.before)
     (same_residuals a.plane a.samples.now c.requires.0 a.top a.x a.y 4 _ _
     (residual_at 0 a.dc_quant a.ac_quant a.tx_type a.lossless a.tokens.now c.requires.1))

@@ -9,7 +9,17 @@ use Rattle.reconstruct.specs.Inner.{Accepted, Checked}
 use Rattle.reconstruct.proofs.Residual.{not_lossless, sized_taken, lossy_taken, lossy_added, same_added}
 use Rattle.reconstruct.proofs.Table.{taken}
 use Rattle.reconstruct.proofs.add_checked.Goals as goal
-use Rattle.reconstruct.proofs.add_checked.Goals.{Else-code-ne0, Else-size-eq0}
+use Rattle.reconstruct.proofs.add_checked.Lts as lts
+use Rattle.reconstruct.proofs.add_checked.Tie as tie
+use Rattle.reconstruct.proofs.add_checked.Reads as reads
+
+-- the place behind a step, with what was known there
+abbrev Else-code-ne0 : Type 0
+Else-code-ne0 = lts.Else1 tie.the-claims reads.Pre reads.Post
+
+-- the place behind a step, with what was known there
+abbrev Else-size-eq0 : Type 0
+Else-size-eq0 = lts.Else2 tie.the-claims reads.Pre reads.Post
 
 -- the tokens are taken
 module _ (e : Else-code-ne0) where
@@ -36,7 +46,7 @@ returns-then-size-eq0 c =
       answered = c.check_tokens-answer.ensures;
       written = λ z. same_added a.plane _ _ a.x a.y 0 a.size a.dc_quant a.ac_quant a.tx_type a.lossless a.tokens.now a.samples.now _
           c.largest-top.ensures (sym c.if-size-eq0.true) c.add_4.ensures;
-      kept = λ h. absurd (h (zero c.before.before.before.before.before.before));
+      kept = λ h. absurd (h (zero c.before.before.before.before.before.before.before));
     }
 
 -- and nothing is lossless
@@ -56,6 +66,6 @@ returns c =
       answered = c.check_tokens-answer.ensures;
       written = λ z. same_added a.plane _ _ a.x a.y a.size a.size a.dc_quant a.ac_quant a.tx_type a.lossless a.tokens.now a.samples.now _
           c.largest-top.ensures refl
-          (c.add_wide.ensures ∙ lossy_added a.plane _ a.x a.y a.size a.dc_quant a.ac_quant a.tx_type a.lossless a.tokens.now a.samples.now (lossy c.before.before.before.before));
-      kept = λ h. absurd (h (zero c.before.before.before.before.before.before));
+          (c.add_wide.ensures ∙ lossy_added a.plane _ a.x a.y a.size a.dc_quant a.ac_quant a.tx_type a.lossless a.tokens.now a.samples.now (lossy c.before.before.before.before.before));
+      kept = λ h. absurd (h (zero c.before.before.before.before.before.before.before));
     }

@@ -8,11 +8,17 @@ use Rattle.residual16.specs.Inner.{Served}
 use Rattle.tokens.proofs.Sizes.{side_most}
 use Rattle.reconstruct.proofs.Residual.{short_added}
 use Rattle.reconstruct.proofs.add_short.Goals as goal
-use Rattle.reconstruct.proofs.add_short.Goals.{Else-not-residual}
+use Rattle.reconstruct.proofs.add_short.Lts as lts
+use Rattle.reconstruct.proofs.add_short.Tie as tie
+use Rattle.reconstruct.proofs.add_short.Reads as reads
+
+-- the place behind a step, with what was known there
+abbrev Else-not-residual : Type 0
+Else-not-residual = lts.Else1 tie.the-claims reads.Pre reads.Post
 
 -- the residual stands in the block
 served : (e : Else-not-residual) → let a = e.args in Served a.size a.dc_quant a.ac_quant a.tx_type a.tokens.now e.residual.new.z
-served e = e.residual.ensures (not-false e.residual.result e.if-not-residual.false)
+served e = e.residual.ensures (e.if-not-residual.false)
 
 pub add_back-requires : goal.add_back-requires
 add_back-requires c =
@@ -21,7 +27,7 @@ add_back-requires c =
 pub returns : goal.returns
 returns c =
     let a = c.args in
-    let t = served c.before.before.before.before.before in
+    let t = served c.before.before.before.before.before.before in
     record {
       small = record { small = λ k h. omega (arith, t.small k h) };
       written = rw c.requires.2 at c.add_back.ensures

@@ -18,7 +18,10 @@ use Rattle.reconstruct.proofs.add_wide.Lts as lts
 use Rattle.reconstruct.proofs.add_wide.Tie as tie
 use Rattle.reconstruct.proofs.add_wide.Reads as reads
 use Rattle.reconstruct.proofs.add_wide.Goals as goal
-use Rattle.reconstruct.proofs.add_wide.Goals.{After-both_passes}
+
+-- the place behind a step, with what was known there
+abbrev After-both_passes : Type 0
+After-both_passes = lts.After-both_passes tie.the-claims reads.Pre reads.Post
 
 -- the place behind a call, with what was known there
 abbrev After-dequantize : Type 0
@@ -45,13 +48,13 @@ dequantize-requires c =
 pub slice_bounds-both_passes-end : goal.slice_bounds-both_passes-end
 slice_bounds-both_passes-end c =
     let a = c.args in
-    rw (coefs c.before) (sym (block_length a.size a.dc_quant a.ac_quant a.tx_type false a.tokens.now c.requires.1))
+    rw (coefs c.before.before) (sym (block_length a.size a.dc_quant a.ac_quant a.tx_type false a.tokens.now c.requires.1))
 
 pub both_passes-requires : goal.both_passes-requires
 both_passes-requires c =
     let a = c.args in
     let t = c.requires.1 in
-    rw (coefs c.before) (
+    rw (coefs c.before.before) (
       omega (arith, c.requires.2),
       t.possible,
       block_room a.size a.dc_quant a.ac_quant a.tx_type false a.tokens.now t,
@@ -77,6 +80,6 @@ unfolding added
 returns c =
     let a = c.args in
     c.add_back.ensures
-    ∙ rw (residuals c.before.before.before.before.before.before.before, c.side-n0.ensures.0)
+    ∙ rw (residuals c.before.before.before.before.before.before.before.before, c.side-n0.ensures.0)
     (same_residuals a.plane a.samples.now c.requires.0 a.top a.x a.y (side (a.size + 2)) _ _
     (residual_at a.size a.dc_quant a.ac_quant a.tx_type false a.tokens.now c.requires.1))

@@ -18,7 +18,18 @@ use Rattle.reconstruct.specs.Inner.{Sound, Checked, Quick, Tried}
 use Rattle.reconstruct.proofs.Residual.{not_lossless, lossy_added}
 use Rattle.reconstruct.proofs.Table.{Shaped, shaped, shape_stops, shape_passes, refused, done}
 use Rattle.reconstruct.proofs.reconstruct_block.Goals as goal
-use Rattle.reconstruct.proofs.reconstruct_block.Goals.{Else-code-ne0, Else-quick, Start}
+use Rattle.reconstruct.proofs.reconstruct_block.Lts as lts
+use Rattle.reconstruct.proofs.reconstruct_block.Tie as tie
+use Rattle.reconstruct.proofs.reconstruct_block.Reads as reads
+use Rattle.reconstruct.proofs.reconstruct_block.Goals.{Start}
+
+-- the place behind a step, with what was known there
+abbrev Else-code-ne0 : Type 0
+Else-code-ne0 = lts.Else1 tie.the-claims reads.Pre reads.Post
+
+-- the place behind a step, with what was known there
+abbrev Else-quick : Type 0
+Else-quick = lts.Else3 tie.the-claims reads.Pre reads.Post
 
 -- the call's input
 abbrev input : Start → Input
@@ -56,42 +67,42 @@ module _ (u : Input) (f : shape u ≡ 0) where
       go : Dec (number answer ≡ 0) → after ≡ samples_after u
       go (yes z) = c.written z ∙ done u (sym e ∙ z)
       go (no n) = c.kept n ∙ refused u (λ q. n (e ∙ q))
-      -- above 4 by 4 nothing is lossless
 
-module _ (h : u.size ≡ 0 → ⊥) where
-  lossy : u.lossless ≡ false
-  lossy = not_lossless u.size u.tx_type u.lossless (shaped u f).possible_ok h
+  -- above 4 by 4 nothing is lossless
+  module _ (h : u.size ≡ 0 → ⊥) where
+    lossy : u.lossless ≡ false
+    lossy = not_lossless u.size u.tx_type u.lossless (shaped u f).possible_ok h
 
-  lent : Lent u.size u.dc u.ac u.tx_type u.tokens
-  lent =
-      let s = shaped u f in
-      record {
-        larger = omega arith;
-        possible = rw lossy at s.possible_ok;
-        all = s.length_ok;
-        dc_ok = dc_fine u.dc u.ac s.quantizers_ok;
-        ac_ok = ac_fine u.dc u.ac s.quantizers_ok;
-      }
+    lent : Lent u.size u.dc u.ac u.tx_type u.tokens
+    lent =
+        let s = shaped u f in
+        record {
+          larger = omega arith;
+          possible = rw lossy at s.possible_ok;
+          all = s.length_ok;
+          dc_ok = dc_fine u.dc u.ac s.quantizers_ok;
+          ac_ok = ac_fine u.dc u.ac s.quantizers_ok;
+        }
 
-  -- where 16 bits are enough the answer is 0
-  served : (answer : Answer) (top : ℕ) (after : List ℕ) → number answer ≡ 0 → top ≡ largest u.depth
-      → Quick u.plane top u.x u.y u.size u.dc u.ac u.tx_type u.tokens u.samples after → Reconstructed u answer after
-  served answer top after z e q =
-      let s = shaped u f in
-      let w : answer_of u ≡ 0 = shape_passes u f ∙ sym (small_fine u.size u.depth u.dc u.ac u.tokens s.depth_ok s.quantizers_ok q.small) in
-      record {
-        answered = z ∙ sym w;
-        written = rw e at q.written ∙ lossy_added u.plane (largest u.depth) u.x u.y u.size u.dc u.ac u.tx_type u.lossless u.tokens u.samples lossy ∙ done u w;
-      }
+    -- where 16 bits are enough the answer is 0
+    served : (answer : Answer) (top : ℕ) (after : List ℕ) → number answer ≡ 0 → top ≡ largest u.depth
+        → Quick u.plane top u.x u.y u.size u.dc u.ac u.tx_type u.tokens u.samples after → Reconstructed u answer after
+    served answer top after z e q =
+        let s = shaped u f in
+        let w : answer_of u ≡ 0 = shape_passes u f ∙ sym (small_fine u.size u.depth u.dc u.ac u.tokens s.depth_ok s.quantizers_ok q.small) in
+        record {
+          answered = z ∙ sym w;
+          written = rw e at q.written ∙ lossy_added u.plane (largest u.depth) u.x u.y u.size u.dc u.ac u.tx_type u.lossless u.tokens u.samples lossy ∙ done u w;
+        }
 
-  -- else the flag may be put in
-  sound_lossy : Sound u.size u.dc u.ac u.tx_type false u.depth u.tokens
-  sound_lossy = rw lossy at sound
+    -- else the flag may be put in
+    sound_lossy : Sound u.size u.dc u.ac u.tx_type false u.depth u.tokens
+    sound_lossy = rw lossy at sound
 
-  checked_lossy : (answer : ℕ) (before after : List ℕ) → before ≡ u.samples
-      → Checked u.plane u.x u.y u.size u.dc u.ac u.tx_type false u.depth u.tokens before answer after
-      → Checked u.plane u.x u.y u.size u.dc u.ac u.tx_type u.lossless u.depth u.tokens u.samples answer after
-  checked_lossy answer before after e c = rw lossy (rw e at c)
+    checked_lossy : (answer : ℕ) (before after : List ℕ) → before ≡ u.samples
+        → Checked u.plane u.x u.y u.size u.dc u.ac u.tx_type false u.depth u.tokens before answer after
+        → Checked u.plane u.x u.y u.size u.dc u.ac u.tx_type u.lossless u.depth u.tokens u.samples answer after
+    checked_lossy answer before after e c = rw lossy (rw e at c)
 
 -- 4 by 4
 sound_4 : (u : Input) → u.size ≡ 0 → Sound u.size u.dc u.ac u.tx_type u.lossless u.depth u.tokens → Sound 0 u.dc u.ac u.tx_type u.lossless u.depth u.tokens
@@ -118,7 +129,7 @@ module _ (e : Else-code-ne0) where
 
 pub returns-then-code-ne0 : goal.returns-then-code-ne0
 returns-then-code-ne0 c =
-    let u = input c.before.before.before.before in
+    let u = input c.before.before.before.before.before in
     let k = c.check-shape.ensures in
     let ne : shape u ≡ 0 → ⊥ = λ e. c.if-code-ne0.true (c.code.ensures ∙ k ∙ e) in
     record { answered = k ∙ sym (shape_stops u ne); written = refused u (λ e. ne (sym (shape_stops u ne) ∙ e)) }
@@ -130,8 +141,8 @@ add_checked-requires c =
 
 pub returns-then-tx_sz-eq0 : goal.returns-then-tx_sz-eq0
 returns-then-tx_sz-eq0 c =
-    let u = input c.before.before.before.before.before.before.before.before.before in
-    checked u (first c.before.before.before.before.before) c.add_checked.result c.add_checked.new.samples (checked_4 u _ _ c.if-tx_sz-eq0.true c.add_checked.ensures)
+    let u = input c.before.before.before.before.before.before.before.before.before.before in
+    checked u (first c.before.before.before.before.before.before) c.add_checked.result c.add_checked.new.samples (checked_4 u _ _ c.if-tx_sz-eq0.true c.add_checked.ensures)
 
 pub quick-requires : goal.quick-requires
 quick-requires c =
@@ -140,9 +151,9 @@ quick-requires c =
 
 pub returns-then-quick : goal.returns-then-quick
 returns-then-quick c =
-    let u = input c.before.before.before.before.before.before.before.before.before.before.before in
+    let u = input c.before.before.before.before.before.before.before.before.before.before.before.before in
     let l = c.largest in
-    served u (first c.before.before.before.before.before.before.before) c.if-tx_sz-eq0.false c.check-shape.result l.result c.quick.new.samples (c.check-shape.ensures ∙ first c.before.before.before.before.before.before.before) l.ensures
+    served u (first c.before.before.before.before.before.before.before.before) c.if-tx_sz-eq0.false c.check-shape.result l.result c.quick.new.samples (c.check-shape.ensures ∙ first c.before.before.before.before.before.before.before.before) l.ensures
     (tried_yes u l.result c.quick.result c.quick.new.samples c.if-quick.true c.quick.ensures)
 
 -- it did not serve: the samples are as they were
@@ -158,9 +169,9 @@ add_checked-requires-2 c =
 
 pub returns : goal.returns
 returns c =
-    let u = input c.before.before.before.before.before.before.before.before.before.before.before.before.before.before.before in
-    checked u (first c.before.before.before.before.before.before.before.before.before.before.before) c.add_checked-2.result c.add_checked-2.new.samples
-    (checked_lossy u (first c.before.before.before.before.before.before.before.before.before.before.before) c.if-tx_sz-eq0.false _ c.quick.new.samples _ (kept c.before.before.before.before) c.add_checked-2.ensures)
+    let u = input c.before.before.before.before.before.before.before.before.before.before.before.before.before.before.before.before in
+    checked u (first c.before.before.before.before.before.before.before.before.before.before.before.before) c.add_checked-2.result c.add_checked-2.new.samples
+    (checked_lossy u (first c.before.before.before.before.before.before.before.before.before.before.before.before) c.if-tx_sz-eq0.false _ c.quick.new.samples _ (kept c.before.before.before.before.before) c.add_checked-2.ensures)
 
 pub largest-requires : goal.largest-requires
 largest-requires c = (shaped (input c.before.before.before.before.before.before) (first c.before.before)).depth_ok

@@ -30,9 +30,9 @@ pub apply_1d-requires : goal.apply_1d-requires
 apply_1d-requires c = (
   c.requires.0.least,
   c.requires.0.most,
-  adst_side 0 0 c.args.n c.args.lossless c.column_dct-col_dct.result (valid c.before.before.before.before.before.before),
+  adst_side 0 0 c.args.n c.args.lossless c.column_dct-col_dct.result (valid c.before.before.before.before.before),
   omega arith,
-  turn_safe (job c.before.before.before.before.before.before) c.loop-j.invariant c.loop-j-test.true c.load.ensures,
+  turn_safe (job c.before.before.before.before.before) c.loop-j.invariant c.loop-j-test.true c.load.ensures,
 )
 
 pub store_column-requires : goal.store_column-requires
@@ -40,14 +40,14 @@ store_column-requires c =
     let e = c.side-n0.ensures.0 in (
       c.requires.0.least,
       c.requires.0.most,
-      rw e at (turn_inside (job c.before.before.before.before.before.before.before.before.before.before) c.loop-j.invariant c.loop-j-test.true),
-      rw e at (turn_grown (job c.before.before.before.before.before.before.before.before.before.before) c.loop-j.invariant c.loop-j-test.true c.load.ensures c.apply_1d.ensures),
+      rw e at (turn_inside (job c.before.before.before.before.before.before.before.before) c.loop-j.invariant c.loop-j-test.true),
+      rw e at (turn_grown (job c.before.before.before.before.before.before.before.before) c.loop-j.invariant c.loop-j-test.true c.load.ensures c.apply_1d.ensures),
     )
 
 pub loop-j-preserved : goal.loop-j-preserved
 loop-j-preserved c =
     let e = c.side-n0.ensures.0 in
-    turn_next (job c.before.before.before.before.before.before.before.before.before.before.before.before) c.loop-j.invariant c.loop-j-test.true c.load.ensures c.apply_1d.ensures ((rw (← e) at c.store_column.ensures))
+    turn_next (job c.before.before.before.before.before.before.before.before.before.before) c.loop-j.invariant c.loop-j-test.true c.load.ensures c.apply_1d.ensures ((rw (← e) at c.store_column.ensures))
 
 pub returns : goal.returns
 returns c = turn_done (job c.before.before) c.loop-j.invariant c.loop-j-test.false

@@ -34,22 +34,22 @@ pub apply_1d-requires : goal.apply_1d-requires
 apply_1d-requires c = (
   c.requires.0.least,
   c.requires.0.most,
-  adst_side 2 2 c.args.n c.args.lossless c.row_dct-row_dct.result (valid c.before.before.before.before.before.before),
+  adst_side 2 2 c.args.n c.args.lossless c.row_dct-row_dct.result (valid c.before.before.before.before.before),
   omega arith,
-  turn_safe (job c.before.before.before.before.before.before) c.loop-i.invariant c.loop-i-test.true c.load.ensures,
+  turn_safe (job c.before.before.before.before.before) c.loop-i.invariant c.loop-i-test.true c.load.ensures,
 )
 
 pub overflow_mul-i-in-loop-i : goal.overflow_mul-i-in-loop-i
 overflow_mul-i-in-loop-i c =
-    omega (arith, turn_inside (job c.before.before.before.before.before.before.before.before.before.before) c.loop-i.invariant c.loop-i-test.true 0 (omega arith))
+    omega (arith, turn_inside (job c.before.before.before.before.before.before.before.before) c.loop-i.invariant c.loop-i-test.true 0 (omega arith))
 
 pub store-requires : goal.store-requires
 store-requires c =
-    ((job c.before.before.before.before.before.before.before.before.before.before).short, turn_inside (job c.before.before.before.before.before.before.before.before.before.before) c.loop-i.invariant c.loop-i-test.true)
+    ((job c.before.before.before.before.before.before.before.before).short, turn_inside (job c.before.before.before.before.before.before.before.before) c.loop-i.invariant c.loop-i-test.true)
 
 pub loop-i-preserved : goal.loop-i-preserved
 loop-i-preserved c =
-    turn_next (job c.before.before.before.before.before.before.before.before.before.before.before.before) c.loop-i.invariant c.loop-i-test.true c.load.ensures c.apply_1d.ensures c.store.ensures
+    turn_next (job c.before.before.before.before.before.before.before.before.before.before) c.loop-i.invariant c.loop-i-test.true c.load.ensures c.apply_1d.ensures c.store.ensures
 
 pub returns : goal.returns
 returns c = turn_done (job c.before.before) c.loop-i.invariant c.loop-i-test.false

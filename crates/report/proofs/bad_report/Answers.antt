@@ -1,7 +1,4 @@
-use mathlib.Core.Path.{◌≡◌, sym, ap, ◌∙◌}
-use mathlib.Core.Bool.{Bool, ◌||◌}
-use borrow.Author.Rules.{rules}
-use Rattle.report.specs.Report.{bad_sums}
+use mathlib.Core.Path.{sym}
 use Rattle.report.proofs.bad_report.Goals as goal
 
 pub returns-then-bad_total : goal.returns-then-bad_total

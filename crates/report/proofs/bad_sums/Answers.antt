@@ -1,15 +1,9 @@
-use mathlib.Core.Logic.{⊎_elim}
 use mathlib.Core.Path.{◌≡◌, sym, ◌∙◌}
-use Prim.Native.Nat.{◌+◌, ◌-◌, ◌*◌, ◌≤◌}
+use Prim.Native.Nat.{◌+◌}
 use native.Mathlib.Omega.{arith}
-use borrow.Author.Rules.{rules}
 use borrow.Author.Tests.{lt-ltb, le-ltb}
-use lib.Dec.{ltb}
-use lib.ListN.{get_or}
-use Rattle.whole.specs.Tests.{any_below}
 use Rattle.whole.proofs.Tests.{any_none, any_hit}
 use Rattle.blocks.proofs.Live.{any_next}
-use Rattle.answers.specs.Limits.{codeable}
 use Rattle.report.proofs.Above.{sums_are}
 use Rattle.report.proofs.bad_sums.Goals as goal
 use Rattle.report.proofs.bad_sums.Goals.{else-wide32-sums, then-wide32-sums}
@@ -22,7 +16,7 @@ loop-k-preserved c =
     let w = c.wide32 in
     let a = c.args in (
       omega arith,
-      elim c.if-wide32-sums.branch [ then-wide32-sums h ↦ h.JOIN-is ∙ sym (any_hit _ c.loop-k.k (c.loop-k.k + 1) (omega arith) (rw w.ensures.0 at (lt-ltb _ _ h.if-wide32-sums.true))) | else-wide32-sums h ↦ any_next _ c.loop-k.k (h.JOIN-is ∙ c.loop-k.invariant.1) (rw w.ensures.0 at (le-ltb _ _ h.if-wide32-sums.false)) ],
+      elim c.if-wide32-sums.branch [ then-wide32-sums h ↦ h.bad-is ∙ sym (any_hit _ c.loop-k.k (c.loop-k.k + 1) (omega arith) (rw w.ensures.0 at (lt-ltb _ _ h.if-wide32-sums.true))) | else-wide32-sums h ↦ any_next _ c.loop-k.k (h.bad-is ∙ c.loop-k.invariant.1) (rw w.ensures.0 at (le-ltb _ _ h.if-wide32-sums.false)) ],
     )
 
 pub returns : goal.returns

@@ -1,16 +1,9 @@
-use mathlib.Core.Logic.{⊎_elim}
-use mathlib.Core.Path.{◌≡◌, sym, ◌∙◌}
-use Prim.Native.Nat.{◌+◌, ◌-◌, ◌*◌, ◌≤◌}
-use native.Mathlib.Omega.{arith}
-use borrow.Author.Rules.{rules}
-use borrow.Author.Tests.{lt-ltb, le-ltb}
+use mathlib.Core.Path.{◌≡◌}
+use Prim.Native.Nat.{◌-◌, ◌*◌, ◌≤◌}
 use lib.Dec.{ltb}
 use lib.ListN.{get_or}
 use Rattle.whole.specs.Tests.{any_below}
-use Rattle.whole.proofs.Tests.{any_none, any_hit}
-use Rattle.blocks.proofs.Live.{any_next}
 use Rattle.answers.specs.Limits.{codeable}
-use Rattle.report.proofs.Above.{sums_are}
 use Rattle.report.proofs.bad_sums.Given as goal
 
 abbrev pub invariant-loop-k : goal.invariant-loop-k

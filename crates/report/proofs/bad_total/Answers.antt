@@ -1,4 +1,3 @@
-use borrow.Author.Rules.{rules}
 use Rattle.report.proofs.Above.{bad_total_lem, too_many}
 use Rattle.report.proofs.bad_total.Goals as goal
 

@@ -1,14 +1,10 @@
 -- `report::reconstruct_block_report` meets its contract.
 use mathlib.Core.Path.{◌≡◌, sym, ap, ◌∙◌}
 use mathlib.Core.Bool.{false, ◌||◌}
-use mathlib.Core.List.{List}
-use Prim.Native.Nat.{ℕ}
-use native.Mathlib.Omega.{arith}
-use borrow.Author.Rules.{rules}
 use lib.ListN.{length}
 use Rattle.reconstruct.specs.Reconstruct as R
 use Rattle.report.specs.Classes.{one, itself}
-use Rattle.report.specs.Report.{Input, answer_of, bad_total, bad_sums, Reported}
+use Rattle.report.specs.Report.{Input, answer_of, bad_total, bad_sums}
 use Rattle.report.specs.Inner.{or_fifteen}
 use Rattle.report.proofs.Table.{note_all, good, passes, fails, samples_stay, list_stays, same_samples, list_done, not_zero, corner_answer}
 use Rattle.report.proofs.Above.{room}
@@ -38,12 +34,12 @@ input s = record { block = block s; counts = s.args.counts.now; sums = s.args.su
 -- the report is refused
 pub returns-then-bad_report : goal.returns-then-bad_report
 returns-then-bad_report c =
-    let u = input c.before.before.before.before.before.before.before in
+    let u = input (goal.at.returns-then-bad_report c).Start in
     let r = c.refused.ensures in
     let e = fails u (sym c.bad_report.ensures ∙ c.if-bad_report.true) in
-    let ne : answer_of u ≡ 0 → ⊥ = λ z. not_zero (R.answer_of (block c.before.before.before.before.before.before.before)) (e ∙ z) in
+    let ne : answer_of u ≡ 0 → ⊥ = λ z. not_zero (R.answer_of (block (goal.at.returns-then-bad_report c).Start)) (e ∙ z) in
     record {
-      answered = r.0 ∙ ap or_fifteen (corner_answer (block c.before.before.before.before.before.before.before)) ∙ e;
+      answered = r.0 ∙ ap or_fifteen (corner_answer (block (goal.at.returns-then-bad_report c).Start)) ∙ e;
       written = r.1 ∙ samples_stay u ne;
       counted = list_stays u one u.counts ne;
       summed = list_stays u itself u.sums ne;
@@ -56,9 +52,9 @@ passed c = sym c.bad_report.ensures ∙ c.if-bad_report.false
 -- reconstruction refuses
 pub returns-then-code-ne0 : goal.returns-then-code-ne0
 returns-then-code-ne0 c =
-    let u = input c.before.before.before.before.before.before.before.before.before in
+    let u = input (goal.at.returns-then-code-ne0 c).Start in
     let r = c.reconstruct_block-answer.ensures in
-    let e = passes u (passed c.before.before.before.before.before.before) in
+    let e = passes u (passed (goal.at.returns-then-code-ne0 c).Else-bad_report) in
     let ne : answer_of u ≡ 0 → ⊥ = λ z. c.if-code-ne0.true (c.code.ensures ∙ r.answered ∙ e ∙ z) in
     record {
       answered = r.answered ∙ e;
@@ -69,22 +65,22 @@ returns-then-code-ne0 c =
 
 -- the block is done
 module _ (d : Else-code-ne0) where
-  done : R.answer_of (block d.before.before.before.before.before.before.before.before.before) ≡ 0
+  done : R.answer_of (block d.before.before.before.before.before.before.before.before.before.before) ≡ 0
   done = sym (d.code.ensures ∙ d.reconstruct_block-answer.ensures.answered) ∙ d.if-code-ne0.false
 
 pub count_tokens-requires : goal.count_tokens-requires
 count_tokens-requires c =
     let a = c.args in
-    let g = good (block c.before.before.before.before.before.before.before.before.before.before.before) (done c.before.before) in
-    (g.size_ok, g.length_ok, g.taken, room (length a.tokens.now) a.counts.now a.sums.now (passed c.before.before.before.before.before.before.before.before))
+    let g = good (block (goal.at.count_tokens-requires c).Start) (done (goal.at.count_tokens-requires c).Else-code-ne0) in
+    (g.size_ok, g.length_ok, g.taken, room (length a.tokens.now) a.counts.now a.sums.now (passed (goal.at.count_tokens-requires c).Else-bad_report))
 
 pub returns : goal.returns
 returns c =
     let a = c.args in
-    let u = input c.before.before.before.before.before.before.before.before.before.before.before.before.before in
+    let u = input (goal.at.returns c).Start in
     let r = c.reconstruct_block-answer.ensures in
-    let e = passes u (passed c.before.before.before.before.before.before.before.before.before.before) in
-    let z = sym e ∙ done c.before.before.before.before in
+    let e = passes u (passed (goal.at.returns c).Else-bad_report) in
+    let z = sym e ∙ done (goal.at.returns c).Else-code-ne0 in
     record {
       answered = r.answered ∙ e;
       written = r.written ∙ same_samples u e;

@@ -1,5 +1,4 @@
 use mathlib.Core.Path.{sym, ◌∙◌}
-use borrow.Author.Rules.{rules}
 use Rattle.reconstruct.specs.Reconstruct.{Input, answer_of}
 use Rattle.report.proofs.Table.{beside_answer, beside_samples, fifteen, no_fifteen}
 use Rattle.report.proofs.refused.Goals as goal
@@ -24,12 +23,12 @@ input s =
 
 pub returns-then-code-ne0 : goal.returns-then-code-ne0
 returns-then-code-ne0 c =
-    let u = input c.before.before.before.before.before.before.before in
+    let u = input (goal.at.returns-then-code-ne0 c).Start in
     let k = c.reconstruct_block-own.ensures.answered ∙ beside_answer u in
     (k ∙ no_fifteen (answer_of u) (λ e. c.if-code-ne0.true (c.code.ensures ∙ k ∙ e)), c.reconstruct_block-own.ensures.written ∙ beside_samples u)
 
 pub returns : goal.returns
 returns c =
-    let u = input c.before.before.before.before.before.before.before in
+    let u = input (goal.at.returns c).Start in
     let k = c.reconstruct_block-own.ensures.answered ∙ beside_answer u in
     (fifteen (answer_of u) (sym (c.code.ensures ∙ k) ∙ c.if-code-ne0.false), c.reconstruct_block-own.ensures.written ∙ beside_samples u)

@@ -1,10 +1,7 @@
 use mathlib.Core.Path.{◌≡◌}
 use Prim.Native.Nat.{◌-◌, ◌*◌, ◌≤◌}
-use native.Mathlib.Omega.{arith}
-use borrow.Author.Rules.{rules}
 use lib.ListN.{get_or}
 use Rattle.report.specs.Classes.{sum_below}
-use Rattle.report.proofs.Above.{sum_none, sum_more, total_is}
 use Rattle.report.proofs.total_of.Given as goal
 
 abbrev pub invariant-loop-k : goal.invariant-loop-k

@@ -47,7 +47,7 @@ enough-requires c =
 module _ (e : Else-not-enough) where
   told : (all e.before.before ≤ 16383)
       × (nat_abs (get_or e.args.tokens.now 0 (pos 0)) * nat_abs e.args.dc_quant.0 + (added e.before.before - nat_abs (get_or e.args.tokens.now 0 (pos 0))) * nat_abs e.args.ac_quant.0 ≤ 31883 * dq_denom e.args.size)
-  told = rw (first_is e.before.before) at (e.enough.ensures (not-false e.enough.result e.if-not-enough.false))
+  told = rw (first_is e.before.before) at (e.enough.ensures (e.if-not-enough.false))
 
   shorts : (k : ℕ) → k < length e.args.tokens.now → Short e.args.size (quantizer_at e.args.dc_quant e.args.ac_quant k) (get_or e.args.tokens.now k (pos 0))
   shorts = let a = e.args in short a.size a.dc_quant a.ac_quant a.tx_type a.tokens.now (lent e.before.before.before.before.before) (all e.before.before) (added e.before.before) (strips e.before.before) (scanned e.before.before) told.0 told.1

@@ -39,22 +39,22 @@ loop-s-preserved c =
     let al = c.weigh_strip-w.result.all in
     let ad = c.weigh_strip-w.result.sum in
     let j = weighed_join 0 m (8 * n0 c.before.before.before.before.before.before.before) t c.loop-s.all c.loop-s.sum al ad c.loop-s.invariant.1 (rw z v) in
-    let joined : Weighed 0 (8 * n0 c.before.before.before.before.before.before.before * (c.loop-s.s + 1)) t (bit_or c.loop-s.all al) c.wrapping_add_u64-sum.result = rw (e, c.wrapping_add_u64-sum.ensures) j in
+    let joined : Weighed 0 (8 * n0 c.before.before.before.before.before.before.before * (c.loop-s.s + 1)) t (bit_or c.loop-s.all al) c.wrapping_add_u64-sum.result = rw (e, c.wrapping_add_u64-sum.ensures.value) j in
     let h : c.loop-s.s + 1 ≤ n0 c.before.before.before.before.before.before.before / 8 = omega arith in
     elim c.if-w-ne0.branch [
       | then-w-ne0 g ↦ (
         h,
         joined,
-        omega (arith, g.JOIN-is),
-        omega (arith, g.JOIN-is),
-        λ k p q. absurd (let u : 8 * (c.loop-s.s + 1) * n0 c.before.before.before.before.before.before.before ≤ k = rw g.JOIN-is at p in omega (arith, u, NatL.mul_comm (c.loop-s.s + 1) (n0 c.before.before.before.before.before.before.before), NatL.mul_assoc 8 (c.loop-s.s + 1) (n0 c.before.before.before.before.before.before.before), NatL.mul_assoc 8 (n0 c.before.before.before.before.before.before.before) (c.loop-s.s + 1))),
+        omega (arith, g.strips-is),
+        omega (arith, g.strips-is),
+        λ k p q. absurd (let u : 8 * (c.loop-s.s + 1) * n0 c.before.before.before.before.before.before.before ≤ k = rw g.strips-is at p in omega (arith, u, NatL.mul_comm (c.loop-s.s + 1) (n0 c.before.before.before.before.before.before.before), NatL.mul_assoc 8 (c.loop-s.s + 1) (n0 c.before.before.before.before.before.before.before), NatL.mul_assoc 8 (n0 c.before.before.before.before.before.before.before) (c.loop-s.s + 1))),
       )
       | else-w-ne0 g ↦ (
         h,
         joined,
-        omega (arith, g.JOIN-is, c.loop-s.invariant.2),
-        omega (arith, g.JOIN-is, c.loop-s.invariant.3),
-        λ k p q. dead_more t (n0 c.before.before.before.before.before.before.before) c.loop-s.s c.loop-s.strips al ad v g.if-w-ne0.false c.loop-s.invariant.4 k (rw g.JOIN-is at p) (omega (arith, e)),
+        omega (arith, g.strips-is, c.loop-s.invariant.2),
+        omega (arith, g.strips-is, c.loop-s.invariant.3),
+        λ k p q. dead_more t (n0 c.before.before.before.before.before.before.before) c.loop-s.s c.loop-s.strips al ad v g.if-w-ne0.false c.loop-s.invariant.4 k (rw g.strips-is at p) (omega (arith, e)),
       )
     ]
 

@@ -23,9 +23,9 @@ pub loop-i-preserved : goal.loop-i-preserved
 loop-i-preserved c =
     let j = job c.before.before.before.before in
     elim c.if-is_set.branch [
-      | then-is_set w ↦ rw (w.JOIN-is, w.JOIN-is, w.JOIN-is)
+      | then-is_set w ↦ rw (w.block-is, w.t-is, w.count-is)
           (row_next j c.loop-i.invariant c.loop-i-test.true (sym c.is_set.ensures ∙ w.if-is_set.true) w.row2-count.ensures.0 w.row2-count.ensures.1 w.row2-count.ensures.2)
-      | else-is_set w ↦ rw (w.JOIN-is, w.JOIN-is, w.JOIN-is) (row_skip j c.loop-i.invariant c.loop-i-test.true (sym c.is_set.ensures ∙ w.if-is_set.false))
+      | else-is_set w ↦ rw (w.block-is, w.t-is, w.count-is) (row_skip j c.loop-i.invariant c.loop-i-test.true (sym c.is_set.ensures ∙ w.if-is_set.false))
     ]
 
 pub returns : goal.returns

@@ -13,11 +13,11 @@ job : (c : Start) → Job (lossy c.args.use_dct) 2 4 (λ z. z) (λ i. i * 4) 1 c
 job c = rows_job _ 2 _ (omega arith) (omega arith) (small_valid 2 c.args.use_dct 2 (omega arith) (omega arith)) c.requires.0 c.requires.1
 
 pub line2-requires : goal.line2-requires
-line2-requires c = turn_safe (job c.before.before.before.before.before.before) c.loop-i.invariant c.loop-i-test.true c.load.ensures
+line2-requires c = turn_safe (job c.before.before.before.before.before) c.loop-i.invariant c.loop-i-test.true c.load.ensures
 
 pub loop-i-preserved : goal.loop-i-preserved
 loop-i-preserved c =
-    turn_next (job c.before.before.before.before.before.before.before.before.before.before.before.before) c.loop-i.invariant c.loop-i-test.true c.load.ensures c.line2.ensures c.store.ensures
+    turn_next (job c.before.before.before.before.before.before.before.before.before.before) c.loop-i.invariant c.loop-i-test.true c.load.ensures c.line2.ensures c.store.ensures
 
 pub returns : goal.returns
 returns c = turn_done (job c.before.before) c.loop-i.invariant c.loop-i-test.false

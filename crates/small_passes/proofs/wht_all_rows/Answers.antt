@@ -15,12 +15,12 @@ job c = rows_job _ 2 _ (omega arith) (omega arith) (refl, refl) c.requires.0 c.r
 
 pub inverse_wht-requires : goal.inverse_wht-requires
 unfolding Safe
-inverse_wht-requires c = (omega arith, turn_safe (job c.before.before.before.before.before.before) c.loop-i.invariant c.loop-i-test.true c.load.ensures)
+inverse_wht-requires c = (omega arith, turn_safe (job c.before.before.before.before.before) c.loop-i.invariant c.loop-i-test.true c.load.ensures)
 
 pub loop-i-preserved : goal.loop-i-preserved
 unfolding apply
 loop-i-preserved c =
-    turn_next (job c.before.before.before.before.before.before.before.before.before.before.before.before) c.loop-i.invariant c.loop-i-test.true c.load.ensures c.inverse_wht.ensures c.store.ensures
+    turn_next (job c.before.before.before.before.before.before.before.before.before.before) c.loop-i.invariant c.loop-i-test.true c.load.ensures c.inverse_wht.ensures c.store.ensures
 
 pub returns : goal.returns
 returns c = turn_done (job c.before.before) c.loop-i.invariant c.loop-i-test.false

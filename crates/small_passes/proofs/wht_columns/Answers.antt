@@ -15,12 +15,12 @@ job c = columns_job _ 2 _ _ (omega arith) (omega arith) (refl, refl) c.requires.
 
 pub inverse_wht-requires : goal.inverse_wht-requires
 unfolding Safe
-inverse_wht-requires c = (omega arith, turn_safe (job c.before.before.before.before.before.before) c.loop-j.invariant c.loop-j-test.true c.load.ensures)
+inverse_wht-requires c = (omega arith, turn_safe (job c.before.before.before.before.before) c.loop-j.invariant c.loop-j-test.true c.load.ensures)
 
 pub loop-j-preserved : goal.loop-j-preserved
 unfolding apply
 loop-j-preserved c =
-    turn_next (job c.before.before.before.before.before.before.before.before.before.before.before.before) c.loop-j.invariant c.loop-j-test.true c.load.ensures c.inverse_wht.ensures c.store.ensures
+    turn_next (job c.before.before.before.before.before.before.before.before.before.before) c.loop-j.invariant c.loop-j-test.true c.load.ensures c.inverse_wht.ensures c.store.ensures
 
 pub returns : goal.returns
 returns c = turn_done (job c.before.before) c.loop-j.invariant c.loop-j-test.false

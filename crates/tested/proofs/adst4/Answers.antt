@@ -1,6 +1,6 @@
 -- `tested::adst4` meets its contract.
 use mathlib.Core.Path.{◌≡◌, sym, ap, ap₂, ◌∙◌, subst}
-use mathlib.Core.Bool.{true, false}
+use mathlib.Core.Bool.{true, false, not}
 use lib.Dec.{lit<}
 use lib.IntN.{ℤ, pos, ◌+ℤ◌, ◌-ℤ◌, ◌*ℤ◌}
 use lib.ListN.{get_or}
@@ -90,16 +90,16 @@ module _ (q : After-round14-y3) where
   at f = f (val (a q.before.before.before.before)) (val (b q.before.before.before.before)) (val (c' q.before.before.before.before)) (val (d q.before.before.before.before))
 
   e0 : rd w32 q.round14-y0.result ≡ at adst0
-  e0 = round_is (raw w32 (x0 q.before.before.before.before ⊕ x3 q.before.before.before.before)) q.round14-y0.ok q.round14-y0.ensures (y0_is q.before.before.before.before)
+  e0 = round_is (raw w32 (x0 q.before.before.before.before ⊕ x3 q.before.before.before.before)) q.round14-y0.type_inv q.round14-y0.ensures (y0_is q.before.before.before.before)
 
   e1 : rd w32 q.round14-y1.result ≡ at adst1
-  e1 = round_is (raw w32 (x1 q.before.before.before.before ⊕ x3 q.before.before.before.before)) q.round14-y1.ok q.round14-y1.ensures (y1_is q.before.before.before.before)
+  e1 = round_is (raw w32 (x1 q.before.before.before.before ⊕ x3 q.before.before.before.before)) q.round14-y1.type_inv q.round14-y1.ensures (y1_is q.before.before.before.before)
 
   e2 : rd w32 q.round14-y2.result ≡ at adst2
-  e2 = round_is (raw w32 (x2 q.before.before.before.before)) q.round14-y2.ok q.round14-y2.ensures (value w32 (x2 q.before.before.before.before) tt)
+  e2 = round_is (raw w32 (x2 q.before.before.before.before)) q.round14-y2.type_inv q.round14-y2.ensures (value w32 (x2 q.before.before.before.before) tt)
 
   e3 : rd w32 q.round14-y3.result ≡ at adst3
-  e3 = round_is (last_sum q.before.before.before.before) q.round14-y3.ok q.round14-y3.ensures (y3_is q.before.before.before.before)
+  e3 = round_is (last_sum q.before.before.before.before) q.round14-y3.type_inv q.round14-y3.ensures (y3_is q.before.before.before.before)
 
   -- of the line's own numbers
   abbrev of : (ℤ → ℤ → ℤ → ℤ → ℤ) → ℤ
@@ -111,7 +111,7 @@ module _ (q : After-round14-y3) where
 pub returns-then-not-put : goal.returns-then-not-put
 unfolding fits step adst4
 returns-then-not-put c =
-    four_stops c.args.t.now c.requires (of c.before.before.before adst0) (of c.before.before.before adst1) (of c.before.before.before adst2) (of c.before.before.before adst3) (rw (e0 c.before.before.before ∙ same c.before.before.before adst0, e1 c.before.before.before ∙ same c.before.before.before adst1) at c.put.ensures.0) c.if-not-put.true
+    four_stops c.args.t.now c.requires (of c.before.before.before adst0) (of c.before.before.before adst1) (of c.before.before.before adst2) (of c.before.before.before adst3) (rw (e0 c.before.before.before ∙ same c.before.before.before adst0, e1 c.before.before.before ∙ same c.before.before.before adst1) at c.put.ensures.0) (ap not c.if-not-put.true)
 
 pub returns : goal.returns
 unfolding fits step adst4
@@ -120,8 +120,8 @@ returns c =
     let f1 = e1 c.before.before.before.before.before ∙ same c.before.before.before.before.before adst1 in
     let f2 = e2 c.before.before.before.before.before ∙ same c.before.before.before.before.before adst2 in
     let f3 = e3 c.before.before.before.before.before ∙ same c.before.before.before.before.before adst3 in
-    four_told c.args.t.now c.requires (of c.before.before.before.before.before adst0) (of c.before.before.before.before.before adst1) (of c.before.before.before.before.before adst2) (of c.before.before.before.before.before adst3) (rw (f0, f1) at c.put.ensures.0) c.if-not-put.false
-    (rw (f0, f1) at (c.put.ensures.1 (not-false c.put.result c.if-not-put.false))) (rw (f2, f3) at c.put-2.ensures.0, λ k. rw (f2, f3) at (c.put-2.ensures.1 k))
+    four_told c.args.t.now c.requires (of c.before.before.before.before.before adst0) (of c.before.before.before.before.before adst1) (of c.before.before.before.before.before adst2) (of c.before.before.before.before.before adst3) (rw (f0, f1) at c.put.ensures.0) (ap not c.if-not-put.false)
+    (rw (f0, f1) at (c.put.ensures.1 (c.if-not-put.false))) (rw (f2, f3) at c.put-2.ensures.0, λ k. rw (f2, f3) at (c.put-2.ensures.1 k))
 
 pub overflow_add-u : goal.overflow_add-u
 overflow_add-u c = room w32 (u c) tt

@@ -41,70 +41,93 @@ returns-in_default c =
     angle_back4
 
 pub returns-in-3 : goal.returns-in-3
+unfolding angle_at
 returns-in-3 c = arm c.args.g 3 (omega arith) angle3
 
 pub returns-in-6 : goal.returns-in-6
+unfolding angle_at
 returns-in-6 c = arm c.args.g 6 (omega arith) angle6
 
 pub returns-in-7 : goal.returns-in-7
+unfolding angle_at
 returns-in-7 c = arm c.args.g 7 (omega arith) angle7
 
 pub returns-in-8 : goal.returns-in-8
+unfolding angle_at
 returns-in-8 c = arm c.args.g 8 (omega arith) angle8
 
 pub returns-in-11 : goal.returns-in-11
+unfolding angle_at
 returns-in-11 c = arm c.args.g 11 (omega arith) angle11
 
 pub returns-in-12 : goal.returns-in-12
+unfolding angle_at
 returns-in-12 c = arm c.args.g 12 (omega arith) angle12
 
 pub returns-in-14 : goal.returns-in-14
+unfolding angle_at
 returns-in-14 c = arm c.args.g 14 (omega arith) angle14
 
 pub returns-in-15 : goal.returns-in-15
+unfolding angle_at
 returns-in-15 c = arm c.args.g 15 (omega arith) angle15
 
 pub returns-in-16 : goal.returns-in-16
+unfolding angle_at
 returns-in-16 c = arm c.args.g 16 (omega arith) angle16
 
 pub returns-in-19 : goal.returns-in-19
+unfolding angle_at
 returns-in-19 c = arm c.args.g 19 (omega arith) angle19
 
 pub returns-in-22 : goal.returns-in-22
+unfolding angle_at
 returns-in-22 c = arm c.args.g 22 (omega arith) angle22
 
 pub returns-in-23 : goal.returns-in-23
+unfolding angle_at
 returns-in-23 c = arm c.args.g 23 (omega arith) angle23
 
 pub returns-in-24 : goal.returns-in-24
+unfolding angle_at
 returns-in-24 c = arm c.args.g 24 (omega arith) angle24
 
 pub returns-in-27 : goal.returns-in-27
+unfolding angle_at
 returns-in-27 c = arm c.args.g 27 (omega arith) angle27
 
 pub returns-in-28 : goal.returns-in-28
+unfolding angle_at
 returns-in-28 c = arm c.args.g 28 (omega arith) angle28
 
 pub returns-in-30 : goal.returns-in-30
+unfolding angle_at
 returns-in-30 c = arm c.args.g 30 (omega arith) angle30
 
 pub returns-in-31 : goal.returns-in-31
+unfolding angle_at
 returns-in-31 c = arm c.args.g 31 (omega arith) angle31
 
 pub returns-in-48 : goal.returns-in-48
+unfolding angle_at
 returns-in-48 c = arm c.args.g 48 (omega arith) angle48
 
 pub returns-in-68 : goal.returns-in-68
+unfolding angle_at
 returns-in-68 c = arm c.args.g 68 (omega arith) angle68
 
 pub returns-in-72 : goal.returns-in-72
+unfolding angle_at
 returns-in-72 c = arm c.args.g 72 (omega arith) angle72
 
 pub returns-in-84 : goal.returns-in-84
+unfolding angle_at
 returns-in-84 c = arm c.args.g 84 (omega arith) angle84
 
 pub returns-in-112 : goal.returns-in-112
+unfolding angle_at
 returns-in-112 c = arm c.args.g 112 (omega arith) angle112
 
 pub returns-in-180 : goal.returns-in-180
+unfolding angle_at
 returns-in-180 c = arm c.args.g 180 (omega arith) angle_back20

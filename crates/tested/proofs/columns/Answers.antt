@@ -1,3 +1,4 @@
+use mathlib.Core.Bool.{not}
 -- `tested::columns` meets its contract.
 use mathlib.Core.Path.{◌≡◌, refl, ap, ◌∙◌}
 use mathlib.Core.List.{List}
@@ -32,14 +33,14 @@ returns-then-not-one c =
     let n = c.args.n in
     let p = pass_of c.args.kind in
     tells_no (λ k. done_fails p n (λ k. k) (side n) c.loop-j.invariant.1 (column_to_come (apply p n) (λ z. z) (side n) c.args.z.now c.loop-j.j (inside c.before.before.before.before))
-    (placed_as p n c.loop-j.z refl c.side-n0.ensures.0 c.one.ensures) c.if-not-one.true (k.each c.loop-j.j (inside c.before.before.before.before)))
+    (placed_as p n c.loop-j.z refl c.side-n0.ensures.0 c.one.ensures) (ap not c.if-not-one.true) (k.each c.loop-j.j (inside c.before.before.before.before)))
 
 pub loop-j-preserved : goal.loop-j-preserved
 loop-j-preserved c =
     let n = c.args.n in
     let p = pass_of c.args.kind in (
       omega (arith, c.loop-j-test.true),
-      done_next p n (λ k. k) (side n) c.loop-j.invariant.1 (column_to_come (apply p n) (λ z. z) (side n) c.args.z.now c.loop-j.j (inside c.before.before.before.before)) (placed_as p n c.loop-j.z refl c.side-n0.ensures.0 c.one.ensures) c.if-not-one.false,
+      done_next p n (λ k. k) (side n) c.loop-j.invariant.1 (column_to_come (apply p n) (λ z. z) (side n) c.args.z.now c.loop-j.j (inside c.before.before.before.before)) (placed_as p n c.loop-j.z refl c.side-n0.ensures.0 c.one.ensures) (ap not c.if-not-one.false),
     )
 
 pub returns : goal.returns

@@ -1,6 +1,6 @@
 -- `tested::dct4` meets its contract: step after step, as far as each has kept.
-use mathlib.Core.Path.{◌≡◌, refl, sym}
-use mathlib.Core.Bool.{true, false}
+use mathlib.Core.Path.{◌≡◌, refl, sym, ap}
+use mathlib.Core.Bool.{true, false, not}
 use mathlib.Core.List.{List}
 use Prim.Native.Nat.{ℕ, ◌≤◌, ◌^◌}
 use lib.Dec.{lit≤, lit<}
@@ -61,22 +61,30 @@ after1 : (c : After-reverse) → After 1 c.args.t.now c.reverse.new.t
 after1 c = moved c.requires.0 c.requires.1 c.reverse.ensures
 
 after2 : (c : Else-not-turn) → After 2 c.args.t.now c.turn.new.t
-after2 c = on_next Dct 2 sized (after1 c.before.before.before) nth1 c.turn.ensures c.if-not-turn.false
+after2 c = on_next Dct 2 sized (after1 c.before.before.before) nth1 c.turn.ensures (ap not c.if-not-turn.false)
 
 after3 : (c : Else-not-turn-2) → After 3 c.args.t.now c.turn-2.new.t
-after3 c = on_next Dct 2 sized (after2 c.before.before.before) nth2 c.turn-2.ensures c.if-not-turn-2.false
+after3 c = on_next Dct 2 sized (after2 c.before.before.before) nth2 c.turn-2.ensures (ap not c.if-not-turn-2.false)
 
 after4 : (c : Else-not-sums) → After 4 c.args.t.now c.sums.new.t
-after4 c = on_next Dct 2 sized (after3 c.before.before.before) nth3 c.sums.ensures c.if-not-sums.false
+after4 c = on_next Dct 2 sized (after3 c.before.before.before) nth3 c.sums.ensures (ap not c.if-not-sums.false)
 
 pub returns-then-not-turn : goal.returns-then-not-turn
-returns-then-not-turn c = on_stop Dct 2 sized (after1 c.before.before.before) nth1 c.turn.ensures c.if-not-turn.true
+returns-then-not-turn c = on_stop Dct 2 sized (after1 c.before.before.before) nth1 c.turn.ensures (ap not c.if-not-turn.true)
 
 pub returns-then-not-turn-2 : goal.returns-then-not-turn-2
-returns-then-not-turn-2 c = on_stop Dct 2 sized (after2 c.before.before.before) nth2 c.turn-2.ensures c.if-not-turn-2.true
+returns-then-not-turn-2 c = on_stop Dct 2 sized (after2 c.before.before.before) nth2 c.turn-2.ensures (ap not c.if-not-turn-2.true)
 
 pub returns-then-not-sums : goal.returns-then-not-sums
-returns-then-not-sums c = on_stop Dct 2 sized (after3 c.before.before.before) nth3 c.sums.ensures c.if-not-sums.true
+returns-then-not-sums c = on_stop Dct 2 sized (after3 c.before.before.before) nth3 c.sums.ensures (ap not c.if-not-sums.true)
 
 pub returns : goal.returns
 returns c = on_last Dct 2 sized (after4 c.before.before) nth4 _ c.sums-2.ensures no_more
+
+pub turn-requires : goal.turn-requires
+unfolding known among
+turn-requires c = search rules
+
+pub turn-requires-2 : goal.turn-requires-2
+unfolding known among
+turn-requires-2 c = search rules

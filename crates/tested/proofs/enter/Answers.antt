@@ -40,8 +40,8 @@ loop-i-preserved c =
     let n = c.args.n in
     let i = c.loop-i.i in
     let t = c.args.t.now in
-    let e = rd_ok w16 {c = get_or t (c.side-n0.result - 1 - 2 * i) (pos 0)} c.t-1.given in
-    let f = rd_ok w16 {c = get_or t (2 * i) (pos 0)} c.t-in-loop-i-1.given in
+    let e = rd_ok w16 {z = get_or t (c.side-n0.result - 1 - 2 * i) (pos 0)} c.t-1.given in
+    let f = rd_ok w16 {z = get_or t (2 * i) (pos 0)} c.t-in-loop-i-1.given in
     (omega arith, fill_two (λ k. get_or t (adst_in n k) (pos 0)) t i c.loop-i.invariant.1 (rw (e, f, c.side-n0.ensures.0, from_end n i, from_start n i)))
 
 pub returns : goal.returns

@@ -1,6 +1,6 @@
 -- `tested::line` meets its contract: one invariant over the place in the list. The loop does not know the kind, so it says this of every kind whose steps these are.
 use mathlib.Core.Path.{◌≡◌, ap, subst, sym}
-use mathlib.Core.Bool.{true}
+use mathlib.Core.Bool.{true, not}
 use Prim.Native.Nat.{ℕ, ◌+◌, ◌-◌, ◌≤◌, ◌<◌, ◌^◌}
 use native.Mathlib.Omega.{arith}
 use lib.Dec.{T}
@@ -48,21 +48,21 @@ module _ (c : In-loop-i) where
 pub apply-requires : goal.apply-requires
 apply-requires c =
     let h = c.requires.1 in
-    let m = at_most (kind c.before.before.before.before) (n c.before.before.before.before) h in
-    let g = going_room (kind c.before.before.before.before) (n c.before.before.before.before) h (going c.before.before.before.before) in
-    (m.0, m.1, (is c.before.before.before.before (kind c.before.before.before.before) h c.first-at.ensures (here c.before.before.before.before)).1, omega (arith, m.2, g.0), g.1)
+    let m = at_most (kind c.before.before.before.before.before) (n c.before.before.before.before.before) h in
+    let g = going_room (kind c.before.before.before.before.before) (n c.before.before.before.before.before) h (going c.before.before.before.before.before) in
+    (m.0, m.1, (is c.before.before.before.before.before (kind c.before.before.before.before.before) h c.first-at.ensures (here c.before.before.before.before.before)).1, omega (arith, m.2, g.0), g.1)
 
 pub returns-then-not-apply : goal.returns-then-not-apply
 returns-then-not-apply c =
     let h = c.requires.1 in
-    going_stop (kind c.before.before.before.before.before.before.before) (n c.before.before.before.before.before.before.before) h (going c.before.before.before.before.before.before.before) (here c.before.before.before.before.before.before.before) (is c.before.before.before.before.before.before.before (kind c.before.before.before.before.before.before.before) h c.first-at.ensures (here c.before.before.before.before.before.before.before)).0 c.apply.ensures c.if-not-apply.true
+    going_stop (kind c.before.before.before.before.before.before.before) (n c.before.before.before.before.before.before.before) h (going c.before.before.before.before.before.before.before) (here c.before.before.before.before.before.before.before) (is c.before.before.before.before.before.before.before (kind c.before.before.before.before.before.before.before) h c.first-at.ensures (here c.before.before.before.before.before.before.before)).0 c.apply.ensures (ap not c.if-not-apply.true)
 
 pub loop-i-preserved : goal.loop-i-preserved
 loop-i-preserved c = (
   omega arith,
   λ k h q z.
       let m : i c.before.before.before.before.before.before.before < length (steps_of (pass_of k) (n c.before.before.before.before.before.before.before)) = omega (arith, z, c.loop-i-test.true) in
-      going_next k (n c.before.before.before.before.before.before.before) h (c.loop-i.invariant.1 k h q z) m (is c.before.before.before.before.before.before.before k h q m).0 c.apply.ensures c.if-not-apply.false,
+      going_next k (n c.before.before.before.before.before.before.before) h (c.loop-i.invariant.1 k h q z) m (is c.before.before.before.before.before.before.before k h q m).0 c.apply.ensures (ap not c.if-not-apply.false),
 )
 
 pub returns : goal.returns
@@ -91,4 +91,4 @@ pub offset_bounds-steps-at : goal.offset_bounds-steps-at
 offset_bounds-steps-at c = let h = inside c.before.before in search rules
 
 pub bounds-steps-at : goal.bounds-steps-at
-bounds-steps-at c = inside c.before.before.before
+bounds-steps-at c = inside c.before.before.before.before

@@ -1,6 +1,6 @@
 -- `tested::negate` meets its contract.
 use mathlib.Core.Path.{◌≡◌, sym, ap, ◌∙◌}
-use mathlib.Core.Bool.{true}
+use mathlib.Core.Bool.{true, not}
 use lib.IntN.{ℤ, pos, neg_ℤ}
 use lib.ListN.{get_or}
 use mir.Syntax.{w32}
@@ -29,13 +29,13 @@ unfolding fits
 tests c = rw (less_is c.before) at c.is_short.ensures
 
 pub returns-then-not-is_short : goal.returns-then-not-is_short
-returns-then-not-is_short c = stops (failed (tests c.before) c.if-not-is_short.true)
+returns-then-not-is_short c = stops (failed (tests c.before) (ap not c.if-not-is_short.true))
 
 pub fneg16-requires : goal.fneg16-requires
-fneg16-requires c = (c.requires, passed (tests c.before.before) c.if-not-is_short.false)
+fneg16-requires c = (c.requires, passed (tests c.before.before) (ap not c.if-not-is_short.false))
 
 pub returns : goal.returns
-returns c = (sym (passed (tests c.before.before.before) c.if-not-is_short.false), λ e. c.fneg16.ensures)
+returns c = (sym (passed (tests c.before.before.before) (ap not c.if-not-is_short.false)), λ e. c.fneg16.ensures)
 
 pub overflow_sub-p : goal.overflow_sub-p
 overflow_sub-p c = room w32 (less c) tt

@@ -1,5 +1,6 @@
+use mathlib.Core.Bool.{not}
 -- `tested::one` meets its contract.
-use mathlib.Core.Path.{◌≡◌}
+use mathlib.Core.Path.{◌≡◌, ap}
 use native.Mathlib.Omega.{arith}
 use borrow.Author.Rules.{rules}
 use Rattle.blocks.proofs.Inverse.{side_most}
@@ -23,7 +24,7 @@ line-requires c =
 
 pub returns-then-not-line : goal.returns-then-not-line
 returns-then-not-line c =
-    one_no c.args.at c.args.step c.args.n c.side-n0.ensures.0 c.args.z.now c.load.ensures.made (pass_of c.args.kind) c.line.ensures c.if-not-line.true
+    one_no c.args.at c.args.step c.args.n c.side-n0.ensures.0 c.args.z.now c.load.ensures.made (pass_of c.args.kind) c.line.ensures (ap not c.if-not-line.true)
 
 pub store-requires : goal.store-requires
 store-requires c =
@@ -31,4 +32,4 @@ store-requires c =
 
 pub returns : goal.returns
 returns c =
-    one_yes c.args.at c.args.step c.args.n c.side-n0.ensures.0 c.args.z.now c.load.ensures.made (pass_of c.args.kind) c.line.ensures c.if-not-line.false c.store.ensures
+    one_yes c.args.at c.args.step c.args.n c.side-n0.ensures.0 c.args.z.now c.load.ensures.made (pass_of c.args.kind) c.line.ensures (ap not c.if-not-line.false) c.store.ensures

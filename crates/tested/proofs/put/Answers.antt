@@ -1,5 +1,5 @@
 -- `tested::put` meets its contract.
-use mathlib.Core.Path.{◌≡◌, sym}
+use mathlib.Core.Path.{sym, ◌∙◌, ◌≡◌}
 use lib.IntN.{ℤ}
 use mir.Facts.{to_z-of_z}
 use borrow.Author.Rules.{rules}
@@ -19,13 +19,13 @@ y_is c = rw (to_z-of_z c.ranges.y) at c.is_short-2.ensures
 -- both tests passed
 fine : (c : Else-not-is_short-2) → short_pair c.args.x c.args.y ≡ true
 fine c =
-    both_short c.args.x c.args.y (passed (x_is c.before.before.before) c.if-not-is_short.false) (passed (y_is c.before) c.if-not-is_short-2.false)
+    both_short c.args.x c.args.y (sym (x_is c.before.before.before) ∙ c.if-not-is_short.false) (sym (y_is c.before) ∙ c.if-not-is_short-2.false)
 
 pub returns-then-not-is_short : goal.returns-then-not-is_short
-returns-then-not-is_short c = stops (not_first c.args.x c.args.y (failed (x_is c.before) c.if-not-is_short.true))
+returns-then-not-is_short c = stops (not_first c.args.x c.args.y (sym (x_is c.before) ∙ c.if-not-is_short.true))
 
 pub returns-then-not-is_short-2 : goal.returns-then-not-is_short-2
-returns-then-not-is_short-2 c = stops (not_second c.args.x c.args.y (failed (y_is c.before) c.if-not-is_short-2.true))
+returns-then-not-is_short-2 c = stops (not_second c.args.x c.args.y (sym (y_is c.before) ∙ c.if-not-is_short-2.true))
 
 pub put16-requires : goal.put16-requires
 put16-requires c =

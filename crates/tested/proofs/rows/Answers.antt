@@ -1,3 +1,4 @@
+use mathlib.Core.Bool.{not}
 -- `tested::rows` meets its contract.
 use mathlib.Core.Path.{◌≡◌, refl, ap, ◌∙◌}
 use mathlib.Core.List.{List}
@@ -32,14 +33,14 @@ returns-then-not-one c =
     let n = c.args.n in
     let p = pass_of c.args.kind in
     tells_no (λ k. done_fails p n (λ k. k * side n) 1 c.loop-i.invariant.1 (row_to_come (apply p n) (side n) c.args.z.now c.loop-i.i (inside c.before.before.before.before))
-    (placed_as p n c.loop-i.z (ap (λ (m : ℕ). c.loop-i.i * m) c.side-n0.ensures.0) refl c.one.ensures) c.if-not-one.true (k.each c.loop-i.i (inside c.before.before.before.before)))
+    (placed_as p n c.loop-i.z (ap (λ (m : ℕ). c.loop-i.i * m) c.side-n0.ensures.0) refl c.one.ensures) (ap not c.if-not-one.true) (k.each c.loop-i.i (inside c.before.before.before.before)))
 
 pub loop-i-preserved : goal.loop-i-preserved
 loop-i-preserved c =
     let n = c.args.n in
     let p = pass_of c.args.kind in (
       omega (arith, c.loop-i-test.true),
-      done_next p n (λ k. k * side n) 1 c.loop-i.invariant.1 (row_to_come (apply p n) (side n) c.args.z.now c.loop-i.i (inside c.before.before.before.before)) (placed_as p n c.loop-i.z (ap (λ (m : ℕ). c.loop-i.i * m) c.side-n0.ensures.0) refl c.one.ensures) c.if-not-one.false,
+      done_next p n (λ k. k * side n) 1 c.loop-i.invariant.1 (row_to_come (apply p n) (side n) c.args.z.now c.loop-i.i (inside c.before.before.before.before)) (placed_as p n c.loop-i.z (ap (λ (m : ℕ). c.loop-i.i * m) c.side-n0.ensures.0) refl c.one.ensures) (ap not c.if-not-one.false),
     )
 
 pub returns : goal.returns

@@ -1,6 +1,6 @@
 -- `tested::wht4` meets its contract.
 use mathlib.Core.Path.{◌≡◌, ap, ◌∙◌}
-use mathlib.Core.Bool.{true, false}
+use mathlib.Core.Bool.{true, false, not}
 use Prim.Native.Nat.{ℕ, ◌^◌}
 use lib.Dec.{lit<}
 use lib.IntN.{ℤ, pos}
@@ -49,35 +49,35 @@ module _ (c : After-wide-4) where
 pub returns-then-not-put : goal.returns-then-not-put
 unfolding fits step wht4
 returns-then-not-put c =
-    four_stops c.args.t.now c.requires.1 (of c.before.before.before wht0) (of c.before.before.before wht1) (of c.before.before.before wht2) (of c.before.before.before wht3) (rw ((is_rd w32 (lit< tt) (four.a-is (k c.before.before.before) c.wide.ensures.1 c.wide-2.ensures.1 c.wide-3.ensures.1 c.wide-4.ensures.1)).eq ∙ same c.before.before.before wht0, (is_rd w32 (lit< tt) (four.b-is (k c.before.before.before) c.wide.ensures.1 c.wide-2.ensures.1 c.wide-3.ensures.1 c.wide-4.ensures.1)).eq ∙ same c.before.before.before wht1) at c.put.ensures.0) c.if-not-put.true
+    four_stops c.args.t.now c.requires.1 (of c.before.before.before wht0) (of c.before.before.before wht1) (of c.before.before.before wht2) (of c.before.before.before wht3) (rw ((is_rd w32 (lit< tt) (four.a_is (k c.before.before.before) c.wide.ensures.1 c.wide-2.ensures.1 c.wide-3.ensures.1 c.wide-4.ensures.1)).eq ∙ same c.before.before.before wht0, (is_rd w32 (lit< tt) (four.b_is (k c.before.before.before) c.wide.ensures.1 c.wide-2.ensures.1 c.wide-3.ensures.1 c.wide-4.ensures.1)).eq ∙ same c.before.before.before wht1) at c.put.ensures.0) (ap not c.if-not-put.true)
 
 pub returns : goal.returns
 unfolding fits step wht4
 returns c =
-    let e0 = (is_rd w32 (lit< tt) (four.a-is (k c.before.before.before.before.before) c.wide.ensures.1 c.wide-2.ensures.1 c.wide-3.ensures.1 c.wide-4.ensures.1)).eq ∙ same c.before.before.before.before.before wht0 in
-    let e1 = (is_rd w32 (lit< tt) (four.b-is (k c.before.before.before.before.before) c.wide.ensures.1 c.wide-2.ensures.1 c.wide-3.ensures.1 c.wide-4.ensures.1)).eq ∙ same c.before.before.before.before.before wht1 in
-    let e2 = (is_rd w32 (lit< tt) (four.c-is (k c.before.before.before.before.before) c.wide.ensures.1 c.wide-2.ensures.1 c.wide-3.ensures.1 c.wide-4.ensures.1)).eq ∙ same c.before.before.before.before.before wht2 in
-    let e3 = (is_rd w32 (lit< tt) (four.d-is (k c.before.before.before.before.before) c.wide.ensures.1 c.wide-2.ensures.1 c.wide-3.ensures.1 c.wide-4.ensures.1)).eq ∙ same c.before.before.before.before.before wht3 in
-    four_told c.args.t.now c.requires.1 (of c.before.before.before.before.before wht0) (of c.before.before.before.before.before wht1) (of c.before.before.before.before.before wht2) (of c.before.before.before.before.before wht3) (rw (e0, e1) at c.put.ensures.0) c.if-not-put.false
-    (rw (e0, e1) at (c.put.ensures.1 (not-false c.put.result c.if-not-put.false))) (rw (e3, e2) at c.put-2.ensures.0, λ k. rw (e3, e2) at (c.put-2.ensures.1 k))
+    let e0 = (is_rd w32 (lit< tt) (four.a_is (k c.before.before.before.before.before) c.wide.ensures.1 c.wide-2.ensures.1 c.wide-3.ensures.1 c.wide-4.ensures.1)).eq ∙ same c.before.before.before.before.before wht0 in
+    let e1 = (is_rd w32 (lit< tt) (four.b_is (k c.before.before.before.before.before) c.wide.ensures.1 c.wide-2.ensures.1 c.wide-3.ensures.1 c.wide-4.ensures.1)).eq ∙ same c.before.before.before.before.before wht1 in
+    let e2 = (is_rd w32 (lit< tt) (four.c_is (k c.before.before.before.before.before) c.wide.ensures.1 c.wide-2.ensures.1 c.wide-3.ensures.1 c.wide-4.ensures.1)).eq ∙ same c.before.before.before.before.before wht2 in
+    let e3 = (is_rd w32 (lit< tt) (four.d_is (k c.before.before.before.before.before) c.wide.ensures.1 c.wide-2.ensures.1 c.wide-3.ensures.1 c.wide-4.ensures.1)).eq ∙ same c.before.before.before.before.before wht3 in
+    four_told c.args.t.now c.requires.1 (of c.before.before.before.before.before wht0) (of c.before.before.before.before.before wht1) (of c.before.before.before.before.before wht2) (of c.before.before.before.before.before wht3) (rw (e0, e1) at c.put.ensures.0) (ap not c.if-not-put.false)
+    (rw (e0, e1) at (c.put.ensures.1 (c.if-not-put.false))) (rw (e3, e2) at c.put-2.ensures.0, λ k. rw (e3, e2) at (c.put-2.ensures.1 k))
 
 pub overflow_add-a : goal.overflow_add-a
-overflow_add-a c = is_ok w32 (lit< tt) (four.p-is (k c) c.wide.ensures.1 c.wide-2.ensures.1 c.wide-3.ensures.1 c.wide-4.ensures.1)
+overflow_add-a c = is_ok w32 (lit< tt) (four.p_is (k c) c.wide.ensures.1 c.wide-2.ensures.1 c.wide-3.ensures.1 c.wide-4.ensures.1)
 
 pub overflow_sub-d : goal.overflow_sub-d
-overflow_sub-d c = is_ok w32 (lit< tt) (four.q-is (k c) c.wide.ensures.1 c.wide-2.ensures.1 c.wide-3.ensures.1 c.wide-4.ensures.1)
+overflow_sub-d c = is_ok w32 (lit< tt) (four.q_is (k c) c.wide.ensures.1 c.wide-2.ensures.1 c.wide-3.ensures.1 c.wide-4.ensures.1)
 
 pub overflow_sub-e : goal.overflow_sub-e
-overflow_sub-e c = is_ok w32 (lit< tt) (four.s-is (k c) c.wide.ensures.1 c.wide-2.ensures.1 c.wide-3.ensures.1 c.wide-4.ensures.1)
+overflow_sub-e c = is_ok w32 (lit< tt) (four.s_is (k c) c.wide.ensures.1 c.wide-2.ensures.1 c.wide-3.ensures.1 c.wide-4.ensures.1)
 
 pub overflow_sub-b : goal.overflow_sub-b
-overflow_sub-b c = is_ok w32 (lit< tt) (four.b-is (k c) c.wide.ensures.1 c.wide-2.ensures.1 c.wide-3.ensures.1 c.wide-4.ensures.1)
+overflow_sub-b c = is_ok w32 (lit< tt) (four.b_is (k c) c.wide.ensures.1 c.wide-2.ensures.1 c.wide-3.ensures.1 c.wide-4.ensures.1)
 
 pub overflow_sub-c : goal.overflow_sub-c
-overflow_sub-c c = is_ok w32 (lit< tt) (four.c-is (k c) c.wide.ensures.1 c.wide-2.ensures.1 c.wide-3.ensures.1 c.wide-4.ensures.1)
+overflow_sub-c c = is_ok w32 (lit< tt) (four.c_is (k c) c.wide.ensures.1 c.wide-2.ensures.1 c.wide-3.ensures.1 c.wide-4.ensures.1)
 
 pub overflow_sub-a : goal.overflow_sub-a
-overflow_sub-a c = is_ok w32 (lit< tt) (four.a-is (k c) c.wide.ensures.1 c.wide-2.ensures.1 c.wide-3.ensures.1 c.wide-4.ensures.1)
+overflow_sub-a c = is_ok w32 (lit< tt) (four.a_is (k c) c.wide.ensures.1 c.wide-2.ensures.1 c.wide-3.ensures.1 c.wide-4.ensures.1)
 
 pub overflow_add-d : goal.overflow_add-d
-overflow_add-d c = is_ok w32 (lit< tt) (four.d-is (k c) c.wide.ensures.1 c.wide-2.ensures.1 c.wide-3.ensures.1 c.wide-4.ensures.1)
+overflow_add-d c = is_ok w32 (lit< tt) (four.d_is (k c) c.wide.ensures.1 c.wide-2.ensures.1 c.wide-3.ensures.1 c.wide-4.ensures.1)

@@ -1,5 +1,4 @@
 use mathlib.Core.Path.{◌≡◌, sym, ap, ◌∙◌}
-use borrow.Author.Rules.{rules}
 use Rattle.answers.specs.Answers.{number}
 use Rattle.vbk.specs.Replay.{Rebuilt}
 use Rattle.vbk.specs.Filled.{reconstruction}

@@ -1,5 +1,4 @@
 use mathlib.Core.Path.{sym, ◌∙◌}
-use borrow.Author.Rules.{rules}
 use Rattle.vbk.proofs.Printing.{short_out, short_samples, short_answers, refusal_room, refusal_printed, count_fits, area_fits, run_room, run_printed}
 use Rattle.vbk.proofs.blockrun.Goals as goal
 
@@ -25,12 +24,12 @@ returns-then-number-ne0 c =
 pub print_run-requires : goal.print_run-requires
 print_run-requires c =
     let a = c.args in (
-      count_fits a.file.now a.samples.now a.answers.now a.out.now c.if-out-lt-TEXT_LIMIT.false c.if-samples-lt-AREA_LIMIT.false c.if-answers-lt-RECORD_LIMIT.false c.replay-run.ensures (sym c.code-number.ensures ∙ c.if-number-ne0.false) c.replay-run.auto.1.0 c.replay-run.auto.1.1.0,
-      area_fits a.file.now a.samples.now a.answers.now a.out.now c.if-out-lt-TEXT_LIMIT.false c.if-samples-lt-AREA_LIMIT.false c.if-answers-lt-RECORD_LIMIT.false c.replay-run.ensures (sym c.code-number.ensures ∙ c.if-number-ne0.false) c.replay-run.auto.1.0 c.replay-run.auto.1.1.0,
-      run_room a.file.now a.samples.now a.answers.now a.out.now c.if-out-lt-TEXT_LIMIT.false c.if-samples-lt-AREA_LIMIT.false c.if-answers-lt-RECORD_LIMIT.false c.replay-run.ensures (sym c.code-number.ensures ∙ c.if-number-ne0.false) c.replay-run.auto.1.0 c.replay-run.auto.1.1.0 (λ k. (c.shared_slice_known-1.given k).fits) (λ k. (c.slice_known-4-1.given k).fits) (λ k. (c.slice_known-5-1.given k).fits),
+      count_fits a.file.now a.samples.now a.answers.now a.out.now c.if-out-lt-TEXT_LIMIT.false c.if-samples-lt-AREA_LIMIT.false c.if-answers-lt-RECORD_LIMIT.false c.replay-run.ensures (sym c.code-number.ensures ∙ c.if-number-ne0.false) c.replay-run.auto.samples c.replay-run.auto.answers,
+      area_fits a.file.now a.samples.now a.answers.now a.out.now c.if-out-lt-TEXT_LIMIT.false c.if-samples-lt-AREA_LIMIT.false c.if-answers-lt-RECORD_LIMIT.false c.replay-run.ensures (sym c.code-number.ensures ∙ c.if-number-ne0.false) c.replay-run.auto.samples c.replay-run.auto.answers,
+      run_room a.file.now a.samples.now a.answers.now a.out.now c.if-out-lt-TEXT_LIMIT.false c.if-samples-lt-AREA_LIMIT.false c.if-answers-lt-RECORD_LIMIT.false c.replay-run.ensures (sym c.code-number.ensures ∙ c.if-number-ne0.false) c.replay-run.auto.samples c.replay-run.auto.answers (λ k. (c.type_inv.file k).fits) (λ k. (c.slice_known-4-1.given k).fits) (λ k. (c.slice_known-5-1.given k).fits),
     )
 
 pub returns : goal.returns
 returns c =
     let a = c.args in
-    run_printed a.file.now a.samples.now a.answers.now a.out.now c.if-out-lt-TEXT_LIMIT.false c.if-samples-lt-AREA_LIMIT.false c.if-answers-lt-RECORD_LIMIT.false c.replay-run.ensures (sym c.code-number.ensures ∙ c.if-number-ne0.false) c.replay-run.auto.1.0 c.replay-run.auto.1.1.0 (λ k. (c.shared_slice_known-1.given k).fits) (λ k. (c.slice_known-4-1.given k).fits) (λ k. (c.slice_known-5-1.given k).fits) c.print_run.ensures
+    run_printed a.file.now a.samples.now a.answers.now a.out.now c.if-out-lt-TEXT_LIMIT.false c.if-samples-lt-AREA_LIMIT.false c.if-answers-lt-RECORD_LIMIT.false c.replay-run.ensures (sym c.code-number.ensures ∙ c.if-number-ne0.false) c.replay-run.auto.samples c.replay-run.auto.answers (λ k. (c.type_inv.file k).fits) (λ k. (c.slice_known-4-1.given k).fits) (λ k. (c.slice_known-5-1.given k).fits) c.print_run.ensures

@@ -1,5 +1,4 @@
 use native.Mathlib.Omega.{arith}
-use borrow.Author.Rules.{rules}
 use Rattle.vbk.proofs.Numbers.{number_most}
 use Rattle.vbk.proofs.number8.Goals as goal
 

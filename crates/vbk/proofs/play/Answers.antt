@@ -21,12 +21,12 @@ read_samples-first-requires c =
 pub read_records-requires : goal.read_records-requires
 read_records-requires c =
     let g = good c.args.file.now c.requires.0 in
-    let e = from_is c.before.before.before.before in
+    let e = from_is (goal.at.read_records-requires c).After-read_samples-first in
     (c.requires.1, g.file_fits, omega (arith, e, g.area_some), omega (arith, e, g.samples_there), c.requires.3)
 
 pub returns : goal.returns
 returns c =
     let a = c.args in
-    ran_of a.file.now (from_is c.before.before.before.before.before.before.before.before.before)
+    ran_of a.file.now (from_is (goal.at.returns c).After-read_samples-first)
     (plane_read a.file.now a.samples.now c.requires.2 (ap (λ (f : Fields). f.next.at) c.requires.1) c.read_samples-first.ensures.1)
     c.read_records.ensures

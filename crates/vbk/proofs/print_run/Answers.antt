@@ -1,29 +1,29 @@
 use mathlib.Core.Path.{sym, ap}
 use Prim.Native.Nat.{◌≤◌}
 use native.Mathlib.Nat as N
-use borrow.Author.Rules.{rules}
 use lib.ListN.{length}
 use lib.Seq.{length-take-le}
 use Rattle.vbk_text.specs.Text.{text}
 use Rattle.vbk_text.proofs.Writing.{put_as, room_as}
 use Rattle.vbk.proofs.Printing.{shown}
 use Rattle.vbk.proofs.print_run.Goals as goal
+use Rattle.vbk.proofs.print_run.Goals.{After-plane_area-n}
 
 pub slice_bounds-write_run-end : goal.slice_bounds-write_run-end
 slice_bounds-write_run-end c = sym (length-take-le _ _ c.requires.0)
 
 -- the plane's samples are there
-area_fits : (c : tie.After-write-run-arg3) → c.plane_area-n.result ≤ length c.args.samples.now
+area_fits : (c : After-plane_area-n) → c.plane_area-n.result ≤ length c.args.samples.now
 area_fits c = rw c.plane_area-n.ensures c.requires.1
 
 pub slice_bounds-write_run-end-2 : goal.slice_bounds-write_run-end-2
-slice_bounds-write_run-end-2 c = sym (length-take-le _ _ (area_fits c))
+slice_bounds-write_run-end-2 c = sym (length-take-le _ _ (area_fits (goal.at.slice_bounds-write_run-end-2 c).After-plane_area-n))
 
 pub write_run-requires : goal.write_run-requires
 write_run-requires c =
     let a = c.args in
     let n = c.plane_area-n.result in (
-      rw (length-take-le n a.samples.now (area_fits c), c.plane_area-n.ensures, c.count16-width.ensures, c.count16-height.ensures, N.mul_comm a.run.fields.height a.run.fields.width) (N.le_refl _),
+      rw (length-take-le n a.samples.now (area_fits (goal.at.write_run-requires c).After-plane_area-n), c.plane_area-n.ensures, c.count16-width.ensures, c.count16-height.ensures, N.mul_comm a.run.fields.height a.run.fields.width) (N.le_refl _),
       room_as a.out.now 0 (ap text (sym (shown a.run a.samples.now a.answers.now c.wide16-version.ensures c.byte64-depth.ensures c.count16-width.ensures c.count16-height.ensures c.plane_area-n.ensures))) c.requires.2,
     )
 

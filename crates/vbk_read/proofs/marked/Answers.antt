@@ -1,6 +1,5 @@
 use lib.ListN.{get_or}
 use borrow.Author.Tests.{eq-eqb, ne_eqb}
-use borrow.Author.Rules.{rules}
 use Rattle.vbk_read.specs.Header.{marked}
 use Rattle.vbk_read.proofs.marked.Goals as goal
 

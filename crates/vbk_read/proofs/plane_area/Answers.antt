@@ -1,6 +1,5 @@
 use native.Mathlib.Omega.{arith}
 use Rattle.vbk_read.proofs.Headers.{area_small}
-use borrow.Author.Rules.{rules}
 use Rattle.vbk_read.proofs.plane_area.Goals as goal
 
 pub overflow_mul-result : goal.overflow_mul-result

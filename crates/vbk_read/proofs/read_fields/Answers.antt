@@ -1,5 +1,4 @@
 use Rattle.vbk_read.proofs.Headers.{fields}
-use borrow.Author.Rules.{rules}
 use Rattle.vbk_read.proofs.read_fields.Goals as goal
 
 pub returns : goal.returns

@@ -1,5 +1,4 @@
 use mathlib.Core.Path.{◌≡◌, sym, ◌∙◌}
-use borrow.Author.Rules.{rules}
 use borrow.Author.Tests.{ne_eqb}
 use Rattle.vbk_read.specs.Header.{header_answer}
 use Rattle.vbk_read.proofs.Headers.{good}
@@ -11,13 +10,13 @@ number_is : (c : After-code) → c.code.result ≡ header_answer c.args.s.now
 number_is c = c.code.ensures ∙ c.header_answer-answer.ensures
 
 done : (c : Else-code-ne0) → header_answer c.args.s.now ≡ 0
-done c = sym (number_is c.before) ∙ c.if-code-ne0.false
+done c = sym (c.code.ensures ∙ c.header_answer-answer.ensures) ∙ c.if-code-ne0.false
 
 pub returns-then-code-ne0 : goal.returns-then-code-ne0
 returns-then-code-ne0 c =
     record {
       answered = c.header_answer-answer.ensures;
-      fields_are = rw (ne_eqb _ 0 (rw (number_is c.before) at c.if-code-ne0.true));
+      fields_are = rw (ne_eqb _ 0 (rw (number_is (goal.at.returns-then-code-ne0 c).After-code) at c.if-code-ne0.true));
     }
 
 pub read_fields-fields-requires : goal.read_fields-fields-requires
@@ -27,5 +26,5 @@ pub returns : goal.returns
 returns c =
     record {
       answered = c.header_answer-answer.ensures;
-      fields_are = rw (done c.before) c.read_fields-fields.ensures;
+      fields_are = rw (done (goal.at.returns c).Else-code-ne0) c.read_fields-fields.ensures;
     }

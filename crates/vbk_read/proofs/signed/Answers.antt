@@ -1,6 +1,5 @@
 use borrow.Author.Tests.{lt-ltb}
 use Rattle.vbk_read.proofs.Words.{sub_fits, cast_fits, word_is}
-use borrow.Author.Rules.{rules}
 use Rattle.vbk_read.proofs.signed.Goals as goal
 
 pub returns-then-u-lt2147483648 : goal.returns-then-u-lt2147483648

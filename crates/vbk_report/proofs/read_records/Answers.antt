@@ -1,13 +1,11 @@
-use mathlib.Core.Path.{◌≡◌, refl, sym, ◌∙◌}
-use Prim.Native.Nat.{◌-◌, ◌<◌}
+use mathlib.Core.Path.{refl, sym, ◌∙◌}
+use Prim.Native.Nat.{◌<◌}
 use native.Mathlib.Omega.{arith}
-use borrow.Author.Rules.{rules}
 use borrow.Author.Tests.{ltb-true, ltb-false}
 use lib.ListN.{length}
-use Rattle.vbk_read.specs.Records.{Recorded}
 use Rattle.vbk_report.specs.Lists.{beside}
 use Rattle.vbk_report.specs.Run.{report_reconstruction}
-use Rattle.vbk.proofs.Records.{Reading, reading_none, reading_room, reading_more, reading_done, moves}
+use Rattle.vbk.proofs.Records.{reading_none, reading_room, reading_more, reading_done, moves}
 use Rattle.vbk_report.proofs.Given.{as_long}
 use Rattle.vbk_report.proofs.read_records.Goals as goal
 
@@ -33,7 +31,7 @@ loop-record-preserved c =
     let a = c.args in
     let h : c.loop-record.at < length a.file.now = ltb-true _ _ (sym c.loop-record.invariant.1.found_is ∙ c.loop-record-test.true) in
     let o = c.one_record-tally in
-    (rw c.loop-record.invariant.1.next_is (reading_more report_reconstruction a.file.now a.from (beside a.samples.now a.counts.now a.sums.now) a.answers.now c.loop-record.invariant.0 c.requires.1 c.requires.4 h o.ensures (as_long a.file.now c.loop-record.at c.loop-record.samples c.loop-record.counts c.loop-record.sums _ _ _ o.ensures.samples_are o.auto.1.1.1.1.0)), c.record_at-record-in-loop-record.ensures, o.auto.1.1.1.1.0 ∙ c.loop-record.invariant.2)
+    (rw c.loop-record.invariant.1.next_is (reading_more report_reconstruction a.file.now a.from (beside a.samples.now a.counts.now a.sums.now) a.answers.now c.loop-record.invariant.0 c.requires.1 c.requires.4 h o.ensures (as_long a.file.now c.loop-record.at c.loop-record.samples c.loop-record.counts c.loop-record.sums _ _ _ o.ensures.samples_are o.auto.samples)), c.record_at-record-in-loop-record.ensures, o.auto.samples ∙ c.loop-record.invariant.2)
 
 pub shape_of-samples : goal.shape_of-samples
 shape_of-samples c = c.loop-record.invariant.2

@@ -1,14 +1,10 @@
-use mathlib.Core.Path.{◌≡◌, refl, sym, ◌∙◌}
-use Prim.Native.Nat.{◌-◌, ◌<◌}
-use native.Mathlib.Omega.{arith}
-use borrow.Author.Rules.{rules}
-use borrow.Author.Tests.{ltb-true, ltb-false}
+use mathlib.Core.Path.{◌≡◌}
+use Prim.Native.Nat.{◌-◌}
 use lib.ListN.{length}
 use Rattle.vbk_read.specs.Records.{Recorded}
 use Rattle.vbk_report.specs.Lists.{beside}
 use Rattle.vbk_report.specs.Run.{report_reconstruction}
-use Rattle.vbk.proofs.Records.{Reading, reading_none, reading_room, reading_more, reading_done, moves}
-use Rattle.vbk_report.proofs.Given.{as_long}
+use Rattle.vbk.proofs.Records.{Reading}
 use Rattle.vbk_report.proofs.read_records.Given as goal
 
 abbrev pub invariant-loop-record : goal.invariant-loop-record

@@ -29,7 +29,7 @@ slice_bounds-tokens-end c =
     let n = c.area-n in
     let z = c.zeros-tokens in
     let r = c.read_tokens in
-    fits_filled a.file.now a.at a.head n.result c.requires.0 c.requires.1 c.requires.2 n.ensures.0 z.result z.ensures r.new.1.1.1.0 r.ensures.1
+    fits_filled a.file.now a.at a.head n.result c.requires.0 c.requires.1 c.requires.2 n.ensures.0 z.result z.ensures r.new.tokens r.ensures.1
 
 pub slice_bounds-reconstruct_block_report-end : goal.slice_bounds-reconstruct_block_report-end
 slice_bounds-reconstruct_block_report-end c =
@@ -37,7 +37,7 @@ slice_bounds-reconstruct_block_report-end c =
     let n = c.area-n in
     let z = c.zeros-tokens in
     let r = c.read_tokens in
-    sym (length-take-le n.result r.new.1.1.1.0 (fits_filled a.file.now a.at a.head n.result c.requires.0 c.requires.1 c.requires.2 n.ensures.0 z.result z.ensures r.new.1.1.1.0 r.ensures.1))
+    sym (length-take-le n.result r.new.tokens (fits_filled a.file.now a.at a.head n.result c.requires.0 c.requires.1 c.requires.2 n.ensures.0 z.result z.ensures r.new.tokens r.ensures.1))
 
 pub returns : goal.returns
 returns c =
@@ -46,7 +46,7 @@ returns c =
     let z = c.zeros-tokens in
     let r = c.read_tokens in
     let e = c.reconstruct_block_report.ensures in
-    let t = tokens_are a.file.now a.at a.head n.result c.requires.0 c.requires.1 c.requires.2 n.ensures.0 z.result z.ensures r.new.1.1.1.0 r.ensures.1 in
+    let t = tokens_are a.file.now a.at a.head n.result c.requires.0 c.requires.1 c.requires.2 n.ensures.0 z.result z.ensures r.new.tokens r.ensures.1 in
     let q1 = c.quantizer in
     let q2 = c.quantizer-2 in
     let d : to_z w32 (of_z w32 q1.result) ≡ pos a.head.dc = back32 q1.result q1.type_inv ∙ q1.ensures in

@@ -1,7 +1,6 @@
 use mathlib.Core.Path.{◌≡◌, sym, ap, ◌∙◌}
 use Prim.Native.Nat.{◌*◌, ◌≤◌}
 use native.Mathlib.Omega.{arith}
-use borrow.Author.Rules.{rules}
 use lib.ListN.{length}
 use lib.Seq.{length-take-le}
 use Rattle.vbk_read.specs.Header.{plane_area, header_answer, fields_of}
@@ -37,26 +36,36 @@ fields_are : (c : Else-code-ne0) → c.read_header-h.result.fields ≡ fields_of
 fields_are c = c.read_header-h.ensures.fields_are ∙ rw (done c)
 
 area_is : (c : After-plane_area-n) → c.plane_area-n.result ≡ plane_area c.args.file.now
-area_is c = c.plane_area-n.ensures ∙ ap (λ (f : Fields). f.width * f.height) (fields_are c.before.before)
+area_is c =
+    let done : header_answer c.args.file.now ≡ 0 = sym c.read_header-h.ensures.answered ∙ sym c.code.ensures ∙ c.if-code-ne0.false in
+    let fields : c.read_header-h.result.fields ≡ fields_of c.args.file.now = c.read_header-h.ensures.fields_are ∙ rw done in
+    c.plane_area-n.ensures ∙ ap (λ (f : Fields). f.width * f.height) fields
 
 -- the plane's samples have room
+room : (c : After-plane_area-n) → c.plane_area-n.result ≤ length c.args.samples.now
+room c =
+    let done : header_answer c.args.file.now ≡ 0 = sym c.read_header-h.ensures.answered ∙ sym c.code.ensures ∙ c.if-code-ne0.false in
+    let fields : c.read_header-h.result.fields ≡ fields_of c.args.file.now = c.read_header-h.ensures.fields_are ∙ rw done in
+    let area : c.plane_area-n.result ≡ plane_area c.args.file.now = c.plane_area-n.ensures ∙ ap (λ (f : Fields). f.width * f.height) fields in
+    omega (arith, area, (good c.args.file.now done).area_fits, c.if-samples-lt-AREA_LIMIT.false)
+
 pub slice_bounds-play-end : goal.slice_bounds-play-end
-slice_bounds-play-end c =
-    let g = good c.args.file.now (done c.before.before) in
-    omega (arith, area_is c, g.area_fits, c.if-samples-lt-AREA_LIMIT.false)
+slice_bounds-play-end c = room (goal.at.slice_bounds-play-end c).After-plane_area-n
 
 pub slice_bounds-play-end-2 : goal.slice_bounds-play-end-2
-slice_bounds-play-end-2 c = sym (length-take-le _ _ (slice_bounds-play-end c.before))
+slice_bounds-play-end-2 c = sym (length-take-le _ _ (room (goal.at.slice_bounds-play-end-2 c).After-plane_area-n))
 
 pub play-tally-requires : goal.play-tally-requires
 play-tally-requires c =
-    (done c.before.before.before.before.before.before, fields_are c.before.before.before.before.before.before, length-take-le _ _ (slice_bounds-play-end c.before.before.before.before) ∙ area_is c.before.before.before.before, c.if-answers-lt-RECORD_LIMIT.false)
+    let p = goal.at.play-tally-requires c in
+    (done p.Else-code-ne0, fields_are p.Else-code-ne0, length-take-le _ _ (room p.After-plane_area-n) ∙ area_is p.After-plane_area-n, c.if-answers-lt-RECORD_LIMIT.false)
 
 pub returns : goal.returns
 returns c =
     let a = c.args in
-    whole a.file.now a.samples.now a.answers.now a.counts.now a.sums.now c.read_header-h.result.answer c.read_header-h.result.fields _ _ c.plane_area-n.result _ _ _ _ (area_is c.before.before.before.before.before.before.before.before.before)
+    let p = goal.at.returns c in
+    whole a.file.now a.samples.now a.answers.now a.counts.now a.sums.now c.read_header-h.result.answer c.read_header-h.result.fields _ _ c.plane_area-n.result _ _ _ _ (area_is p.After-plane_area-n)
     (sym c.code.ensures ∙ c.if-code-ne0.false)
-    (enough a.file.now a.samples.now a.answers.now c.if-samples-lt-AREA_LIMIT.false c.if-answers-lt-RECORD_LIMIT.false ∙ done c.before.before.before.before.before.before.before.before.before.before.before)
-    (fields_are c.before.before.before.before.before.before.before.before.before.before.before)
+    (enough a.file.now a.samples.now a.answers.now c.if-samples-lt-AREA_LIMIT.false c.if-answers-lt-RECORD_LIMIT.false ∙ done p.Else-code-ne0)
+    (fields_are p.Else-code-ne0)
     c.play-tally.ensures

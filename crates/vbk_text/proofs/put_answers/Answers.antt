@@ -1,8 +1,6 @@
-use Prim.Native.Nat.{◌-◌}
-use borrow.Author.Rules.{rules}
 use lib.ListN.{length}
 use Rattle.vbk_text.specs.Text.{answer_line}
-use Rattle.vbk_text.proofs.Writing.{Pieces, pieces_none, pieces_room, pieces_more, pieces_done, pieces_length}
+use Rattle.vbk_text.proofs.Writing.{pieces_none, pieces_room, pieces_more, pieces_done, pieces_length}
 use Rattle.vbk_text.proofs.put_answers.Goals as goal
 
 pub loop-i-init : goal.loop-i-init

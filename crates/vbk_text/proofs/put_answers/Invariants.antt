@@ -1,8 +1,7 @@
 use Prim.Native.Nat.{◌-◌}
-use borrow.Author.Rules.{rules}
 use lib.ListN.{length}
 use Rattle.vbk_text.specs.Text.{answer_line}
-use Rattle.vbk_text.proofs.Writing.{Pieces, pieces_none, pieces_room, pieces_more, pieces_done, pieces_length}
+use Rattle.vbk_text.proofs.Writing.{Pieces}
 use Rattle.vbk_text.proofs.put_answers.Given as goal
 
 abbrev pub invariant-loop-i : goal.invariant-loop-i

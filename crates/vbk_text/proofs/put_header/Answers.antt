@@ -1,6 +1,5 @@
 use mathlib.Core.List.{[], ◌∷◌}
 use Prim.Native.Nat.{◌+◌}
-use borrow.Author.Rules.{rules}
 use lib.ListN.{length}
 use lib.Seq.{sets}
 use Rattle.whole.specs.Steps.{◌⨾◌}
@@ -50,32 +49,32 @@ put_byte-a-requires c = let a = c.args in todo_room (86 ∷ []) (66 ∷ [] ⨾ 7
 
 pub put_byte-b-requires : goal.put_byte-b-requires
 unfolding header_line
-put_byte-b-requires c = let a = c.args in todo_room (66 ∷ []) (75 ∷ [] ⨾ word a.version ⨾ word a.depth ⨾ word a.width ⨾ word a.height ⨾ newline) (left1 c.before.before.before)
+put_byte-b-requires c = let a = c.args in todo_room (66 ∷ []) (75 ∷ [] ⨾ word a.version ⨾ word a.depth ⨾ word a.width ⨾ word a.height ⨾ newline) (left1 (goal.at.put_byte-b-requires c).After-put_byte-a)
 
 pub put_byte-c-requires : goal.put_byte-c-requires
 unfolding header_line
-put_byte-c-requires c = let a = c.args in todo_room (75 ∷ []) (word a.version ⨾ word a.depth ⨾ word a.width ⨾ word a.height ⨾ newline) (left2 c.before.before.before)
+put_byte-c-requires c = let a = c.args in todo_room (75 ∷ []) (word a.version ⨾ word a.depth ⨾ word a.width ⨾ word a.height ⨾ newline) (left2 (goal.at.put_byte-c-requires c).After-put_byte-b)
 
 pub put_word-d-requires : goal.put_word-d-requires
 unfolding header_line
-put_word-d-requires c = let a = c.args in todo_room (word a.version) (word a.depth ⨾ word a.width ⨾ word a.height ⨾ newline) (left3 c.before.before.before)
+put_word-d-requires c = let a = c.args in todo_room (word a.version) (word a.depth ⨾ word a.width ⨾ word a.height ⨾ newline) (left3 (goal.at.put_word-d-requires c).After-put_byte-c)
 
 pub put_word-e-requires : goal.put_word-e-requires
 unfolding header_line
-put_word-e-requires c = let a = c.args in todo_room (word a.depth) (word a.width ⨾ word a.height ⨾ newline) (left4 c.before.before.before)
+put_word-e-requires c = let a = c.args in todo_room (word a.depth) (word a.width ⨾ word a.height ⨾ newline) (left4 (goal.at.put_word-e-requires c).After-put_word-d)
 
 pub put_word-f-requires : goal.put_word-f-requires
 unfolding header_line
-put_word-f-requires c = let a = c.args in todo_room (word a.width) (word a.height ⨾ newline) (left5 c.before.before.before)
+put_word-f-requires c = let a = c.args in todo_room (word a.width) (word a.height ⨾ newline) (left5 (goal.at.put_word-f-requires c).After-put_word-e)
 
 pub put_word-g-requires : goal.put_word-g-requires
 unfolding header_line
-put_word-g-requires c = let a = c.args in todo_room (word a.height) (newline) (left6 c.before.before.before)
+put_word-g-requires c = let a = c.args in todo_room (word a.height) (newline) (left6 (goal.at.put_word-g-requires c).After-put_word-f)
 
 pub put_byte-requires : goal.put_byte-requires
 unfolding header_line
-put_byte-requires c = let a = c.args in (left7 c.before.before.before).room
+put_byte-requires c = let a = c.args in (left7 (goal.at.put_byte-requires c).After-put_word-g).room
 
 pub returns : goal.returns
 unfolding header_line
-returns c = let a = c.args in todo_last (left7 c.before.before.before.before.before.before) c.put_byte.ensures
+returns c = let a = c.args in todo_last (left7 (goal.at.returns c).After-put_word-g) c.put_byte.ensures

@@ -1,6 +1,5 @@
 use mathlib.Core.List.{[], ◌∷◌}
 use Prim.Native.Nat.{◌+◌}
-use borrow.Author.Rules.{rules}
 use lib.ListN.{length}
 use lib.Seq.{sets}
 use Rattle.whole.specs.Steps.{◌⨾◌}
@@ -25,12 +24,12 @@ put_byte-a-requires c = let a = c.args in todo_room (a.letter ∷ []) (word a.n 
 
 pub put_word-b-requires : goal.put_word-b-requires
 unfolding number_line
-put_word-b-requires c = let a = c.args in todo_room (word a.n) (newline) (left1 c.before.before.before)
+put_word-b-requires c = let a = c.args in todo_room (word a.n) (newline) (left1 (goal.at.put_word-b-requires c).After-put_byte-a)
 
 pub put_byte-requires : goal.put_byte-requires
 unfolding number_line
-put_byte-requires c = let a = c.args in (left2 c.before.before.before).room
+put_byte-requires c = let a = c.args in (left2 (goal.at.put_byte-requires c).After-put_word-b).room
 
 pub returns : goal.returns
 unfolding number_line
-returns c = let a = c.args in todo_last (left2 c.before.before.before.before.before.before) c.put_byte.ensures
+returns c = let a = c.args in todo_last (left2 (goal.at.returns c).After-put_word-b) c.put_byte.ensures

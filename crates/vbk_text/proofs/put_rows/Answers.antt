@@ -1,7 +1,5 @@
-use Prim.Native.Nat.{◌-◌}
-use borrow.Author.Rules.{rules}
 use Rattle.vbk_text.specs.Text.{row_line}
-use Rattle.vbk_text.proofs.Writing.{row_fits, Pieces, pieces_none, pieces_room, pieces_more, pieces_done, pieces_length}
+use Rattle.vbk_text.proofs.Writing.{row_fits, pieces_none, pieces_room, pieces_more, pieces_done, pieces_length}
 use Rattle.vbk_text.proofs.put_rows.Goals as goal
 
 pub loop-r-init : goal.loop-r-init

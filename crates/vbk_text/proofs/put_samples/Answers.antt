@@ -1,9 +1,8 @@
 use mathlib.Core.Path.{sym, ap}
-use Prim.Native.Nat.{◌+◌, ◌-◌}
-use borrow.Author.Rules.{rules}
+use Prim.Native.Nat.{◌+◌}
 use lib.ListN.{get_or}
 use Rattle.vbk_text.specs.Text.{word, samples_from}
-use Rattle.vbk_text.proofs.Writing.{put_as, room_as, Pieces, pieces_none, pieces_room, pieces_more, pieces_done, pieces_length}
+use Rattle.vbk_text.proofs.Writing.{put_as, room_as, pieces_none, pieces_room, pieces_more, pieces_done, pieces_length}
 use Rattle.vbk_text.proofs.put_samples.Goals as goal
 
 pub loop-c-init : goal.loop-c-init

@@ -1,9 +1,7 @@
-use mathlib.Core.Path.{sym, ap}
 use Prim.Native.Nat.{◌+◌, ◌-◌}
-use borrow.Author.Rules.{rules}
 use lib.ListN.{get_or}
-use Rattle.vbk_text.specs.Text.{word, samples_from}
-use Rattle.vbk_text.proofs.Writing.{put_as, room_as, Pieces, pieces_none, pieces_room, pieces_more, pieces_done, pieces_length}
+use Rattle.vbk_text.specs.Text.{word}
+use Rattle.vbk_text.proofs.Writing.{Pieces}
 use Rattle.vbk_text.proofs.put_samples.Given as goal
 
 abbrev pub invariant-loop-c : goal.invariant-loop-c

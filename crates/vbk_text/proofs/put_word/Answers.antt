@@ -1,6 +1,5 @@
 use mathlib.Core.List.{[], ◌∷◌}
 use Prim.Native.Nat.{◌+◌}
-use borrow.Author.Rules.{rules}
 use lib.ListN.{length}
 use lib.Seq.{sets}
 use Rattle.vbk_text.specs.Text.{word}
@@ -20,8 +19,8 @@ put_byte-next-requires c = let a = c.args in todo_room (32 ∷ []) (decimal a.n)
 
 pub put_decimal-requires : goal.put_decimal-requires
 unfolding word
-put_decimal-requires c = let a = c.args in (left1 c.before.before.before).room
+put_decimal-requires c = let a = c.args in (left1 (goal.at.put_decimal-requires c).After-put_byte-next).room
 
 pub returns : goal.returns
 unfolding word
-returns c = let a = c.args in todo_last (left1 c.before.before.before.before.before.before) c.put_decimal.ensures
+returns c = let a = c.args in todo_last (left1 (goal.at.returns c).After-put_byte-next) c.put_decimal.ensures

@@ -1,5 +1,4 @@
 use Rattle.vbk_text.specs.Text.{text}
-use borrow.Author.Rules.{rules}
 use Rattle.vbk_text.proofs.write_refusal.Goals as goal
 
 pub put_number-requires : goal.put_number-requires

@@ -1,14 +1,9 @@
-use mathlib.Core.Path.{◌≡◌, sym}
+use mathlib.Core.Path.{◌≡◌}
 use mathlib.Core.Bool.{false}
 use Prim.Native.Nat.{◌≤◌, ◌-◌}
-use native.Mathlib.Omega.{arith}
-use borrow.Author.Rules.{rules}
-use borrow.Author.Tests.{lt-ltb, le-ltb}
 use lib.Dec.{ltb}
 use lib.ListN.{length, get_or}
 use Rattle.whole.specs.Tests.{any_below}
-use Rattle.whole.proofs.Tests.{any_none, any_more, any_hit}
-use Rattle.vbk_write.specs.Promises.{any_above}
 use Rattle.vbk_write.proofs.any_above.Given as goal
 
 abbrev pub invariant-loop-i : goal.invariant-loop-i

@@ -1,12 +1,9 @@
 use mathlib.Core.Path.{◌≡◌, sym, ap, ◌∙◌}
-use mathlib.Core.Bool.{false, not}
-use Prim.Native.Nat.{◌+◌, ◌-◌, ◌≤◌}
+use Prim.Native.Nat.{◌+◌, ◌≤◌}
 use native.Mathlib.Omega.{arith}
 use borrow.Author.Rules.{rules}
 use borrow.Author.Tests.{eq-eqb}
-use lib.Dec.{eqb}
 use lib.ListN.{length, get_or}
-use Rattle.whole.specs.Tests.{any_below}
 use Rattle.whole.proofs.Tests.{any_none, any_more}
 use Rattle.answers.specs.Sizes.{area}
 use Rattle.vbk_write.specs.Lent.{tokens_before}
@@ -42,7 +39,7 @@ pub returns-then-count-area : goal.returns-then-count-area
 returns-then-count-area c =
     let a = c.args in
     wrong_count a.sizes.now a.counts.now a.tokens c.loop-i.i c.loop-i-test.true
-    (λ e. c.if-count-area.true (c.count32-count.ensures ∙ e ∙ sym (count_is c.before)))
+    (λ e. c.if-count-area.true (c.count32-count.ensures ∙ e ∙ sym (count_is (goal.at.returns-then-count-area c).After-area)))
 
 pub overflow_sub-tokens : goal.overflow_sub-tokens
 overflow_sub-tokens c = c.loop-i.invariant.3
@@ -63,7 +60,7 @@ loop-i-preserved c =
     let l = c.loop-i in
     let n = c.count32-count in (
       search rules,
-      any_more _ _ l.invariant.1 (rw (eq-eqb (get_or a.counts.now l.i 0) (area (get_or a.sizes.now l.i 0 + 2)) (sym n.ensures ∙ c.if-count-area.false ∙ count_is c.before.before))),
+      any_more _ _ l.invariant.1 (rw (eq-eqb (get_or a.counts.now l.i 0) (area (get_or a.sizes.now l.i 0 + 2)) (sym n.ensures ∙ c.if-count-area.false ∙ count_is (goal.at.loop-i-preserved c).After-area))),
       before_next a.counts.now l.i l.invariant.2 n.ensures,
       omega (arith, c.if-tokens-total.false, l.invariant.3),
     )

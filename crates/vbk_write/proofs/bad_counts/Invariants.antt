@@ -1,16 +1,11 @@
-use mathlib.Core.Path.{◌≡◌, sym, ap, ◌∙◌}
+use mathlib.Core.Path.{◌≡◌}
 use mathlib.Core.Bool.{false, not}
 use Prim.Native.Nat.{◌+◌, ◌-◌, ◌≤◌}
-use native.Mathlib.Omega.{arith}
-use borrow.Author.Rules.{rules}
-use borrow.Author.Tests.{eq-eqb}
 use lib.Dec.{eqb}
 use lib.ListN.{length, get_or}
 use Rattle.whole.specs.Tests.{any_below}
-use Rattle.whole.proofs.Tests.{any_none, any_more}
 use Rattle.answers.specs.Sizes.{area}
 use Rattle.vbk_write.specs.Lent.{tokens_before}
-use Rattle.vbk_write.proofs.Counts.{none_above, before_next, wrong_count, too_many, right_counts}
 use Rattle.vbk_write.proofs.bad_counts.Given as goal
 
 -- i records have their n0² tokens each, and all of these are there

@@ -1,5 +1,4 @@
 use Prim.Native.Nat.{◌+◌}
-use borrow.Author.Rules.{rules}
 use lib.ListN.{length}
 use lib.Seq.{sets}
 use Rattle.whole.specs.Steps.{◌⨾◌}
@@ -45,28 +44,28 @@ put_u8-a-requires c = let a = c.args in todo_room (one 86) (one 66 ⨾ one 75 �
 
 pub put_u8-b-requires : goal.put_u8-b-requires
 unfolding header_bytes
-put_u8-b-requires c = let a = c.args in todo_room (one 66) (one 75 ⨾ two 1 ⨾ one a.depth ⨾ two a.width ⨾ two a.height) (left1 c.before.before.before)
+put_u8-b-requires c = let a = c.args in todo_room (one 66) (one 75 ⨾ two 1 ⨾ one a.depth ⨾ two a.width ⨾ two a.height) (left1 (goal.at.put_u8-b-requires c).After-put_u8-a)
 
 pub put_u8-c-requires : goal.put_u8-c-requires
 unfolding header_bytes
-put_u8-c-requires c = let a = c.args in todo_room (one 75) (two 1 ⨾ one a.depth ⨾ two a.width ⨾ two a.height) (left2 c.before.before.before)
+put_u8-c-requires c = let a = c.args in todo_room (one 75) (two 1 ⨾ one a.depth ⨾ two a.width ⨾ two a.height) (left2 (goal.at.put_u8-c-requires c).After-put_u8-b)
 
 pub put_u16-d-requires : goal.put_u16-d-requires
 unfolding header_bytes
-put_u16-d-requires c = let a = c.args in todo_room (two 1) (one a.depth ⨾ two a.width ⨾ two a.height) (left3 c.before.before.before)
+put_u16-d-requires c = let a = c.args in todo_room (two 1) (one a.depth ⨾ two a.width ⨾ two a.height) (left3 (goal.at.put_u16-d-requires c).After-put_u8-c)
 
 pub put_u8-e-requires : goal.put_u8-e-requires
 unfolding header_bytes
-put_u8-e-requires c = let a = c.args in todo_room (one a.depth) (two a.width ⨾ two a.height) (left4 c.before.before.before)
+put_u8-e-requires c = let a = c.args in todo_room (one a.depth) (two a.width ⨾ two a.height) (left4 (goal.at.put_u8-e-requires c).After-put_u16-d)
 
 pub put_u16-f-requires : goal.put_u16-f-requires
 unfolding header_bytes
-put_u16-f-requires c = let a = c.args in todo_room (two a.width) (two a.height) (left5 c.before.before.before)
+put_u16-f-requires c = let a = c.args in todo_room (two a.width) (two a.height) (left5 (goal.at.put_u16-f-requires c).After-put_u8-e)
 
 pub put_u16-requires : goal.put_u16-requires
 unfolding header_bytes
-put_u16-requires c = let a = c.args in (left6 c.before.before.before).room
+put_u16-requires c = let a = c.args in (left6 (goal.at.put_u16-requires c).After-put_u16-f).room
 
 pub returns : goal.returns
 unfolding header_bytes
-returns c = let a = c.args in todo_last (left6 c.before.before.before.before.before.before) c.put_u16.ensures
+returns c = let a = c.args in todo_last (left6 (goal.at.returns c).After-put_u16-f) c.put_u16.ensures

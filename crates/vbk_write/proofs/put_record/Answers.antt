@@ -2,7 +2,6 @@ use mathlib.Core.Path.{◌≡◌, sym, ap₂}
 use mathlib.Core.List.{[]}
 use Prim.Native.Nat.{◌+◌}
 use native.Mathlib.Omega.{arith}
-use borrow.Author.Rules.{rules}
 use lib.ListN.{length, get_or}
 use lib.Seq.{sets}
 use Rattle.vbk_text.proofs.Writing.{put_as, room_as, Todo, todo_all, todo_room, todo_next, todo_last}
@@ -21,17 +20,17 @@ unfolding entry_bytes entry_of
 put_head-next-requires c =
     let a = c.args in
     todo_room (head_bytes (get_or a.xs.now a.k 0) (get_or a.ys.now a.k 0) (get_or a.sizes.now a.k 0) (get_or a.tx_types.now a.k 0) (get_or a.lossless.now a.k 0) (get_or a.dcs.now a.k 0) (get_or a.acs.now a.k 0)) (joined four (tokens_from a.tokens.now (tokens_before a.counts.now a.k) (get_or a.counts.now a.k 0)))
-    (todo_all a.out.now a.at (entry_bytes (entry_of (lent c.before.before.before.before.before.before.before.before.before.before.before.before.before.before.before.before.before) a.k)) c.requires.4)
+    (todo_all a.out.now a.at (entry_bytes (entry_of (lent (goal.at.put_head-next-requires c).Start) a.k)) c.requires.4)
 
 -- what is left after the head: the tokens
 left : (c : After-put_head-next) → let a = c.args in
     Todo c.put_head-next.new.out c.put_head-next.result (joined four (tokens_from a.tokens.now (tokens_before a.counts.now a.k) (get_or a.counts.now a.k 0)))
-    (sets a.out.now a.at (entry_bytes (entry_of (lent c.before.before.before.before.before.before.before.before.before.before.before.before.before.before.before.before.before.before) a.k))) (a.at + length (entry_bytes (entry_of (lent c.before.before.before.before.before.before.before.before.before.before.before.before.before.before.before.before.before.before) a.k)))
+    (sets a.out.now a.at (entry_bytes (entry_of (lent c.before.before.before.before.before.before.before.before.before.before.before.before.before.before.before.before.before.before.before) a.k))) (a.at + length (entry_bytes (entry_of (lent c.before.before.before.before.before.before.before.before.before.before.before.before.before.before.before.before.before.before.before) a.k)))
 unfolding entry_bytes entry_of
 left c =
     let a = c.args in
     todo_next (head_bytes (get_or a.xs.now a.k 0) (get_or a.ys.now a.k 0) (get_or a.sizes.now a.k 0) (get_or a.tx_types.now a.k 0) (get_or a.lossless.now a.k 0) (get_or a.dcs.now a.k 0) (get_or a.acs.now a.k 0)) (joined four (tokens_from a.tokens.now (tokens_before a.counts.now a.k) (get_or a.counts.now a.k 0)))
-    (todo_all a.out.now a.at (entry_bytes (entry_of (lent c.before.before.before.before.before.before.before.before.before.before.before.before.before.before.before.before.before.before) a.k)) c.requires.4) c.put_head-next.ensures
+    (todo_all a.out.now a.at (entry_bytes (entry_of (lent c.before.before.before.before.before.before.before.before.before.before.before.before.before.before.before.before.before.before.before) a.k)) c.requires.4) c.put_head-next.ensures
 
 -- the tokens as the code counts them
 share : (c : After-count32) → let a = c.args in
@@ -41,7 +40,7 @@ share c =
 
 pub put_tokens-requires : goal.put_tokens-requires
 put_tokens-requires c =
-    (omega (arith, c.requires.3, c.count32.ensures), room_as c.put_head-next.new.out c.put_head-next.result (sym (share c)) (left c.before.before.before.before.before).room)
+    (omega (arith, c.requires.3, c.count32.ensures), room_as c.put_head-next.new.out c.put_head-next.result (sym (share c)) (left (goal.at.put_tokens-requires c).After-put_head-next).room)
 
 pub returns : goal.returns
-returns c = todo_last (left c.before.before.before.before.before.before.before.before) (put_as (share c.before.before.before) c.put_tokens.ensures)
+returns c = todo_last (left (goal.at.returns c).After-put_head-next) (put_as (share (goal.at.returns c).After-count32) c.put_tokens.ensures)

@@ -1,10 +1,9 @@
-use mathlib.Core.Path.{◌≡◌, refl}
+use mathlib.Core.Path.{refl}
 use mathlib.Core.List.{[]}
-use Prim.Native.Nat.{◌+◌, ◌-◌, ◌≤◌}
+use Prim.Native.Nat.{◌+◌, ◌≤◌}
 use native.Mathlib.Omega.{arith}
-use borrow.Author.Rules.{rules}
 use lib.ListN.{length, get_or}
-use Rattle.vbk_text.proofs.Writing.{Pieces, pieces_none, pieces_room, pieces_more, pieces_done, pieces_length}
+use Rattle.vbk_text.proofs.Writing.{pieces_none, pieces_room, pieces_more, pieces_done, pieces_length}
 use Rattle.vbk_write.specs.Clip.{entry_bytes}
 use Rattle.vbk_write.specs.Lent.{Lent, tokens_before, entry_of}
 use Rattle.vbk_write.proofs.Counts.{before_more, before_next}
@@ -18,7 +17,7 @@ lent s = record { depth = 0; width = 0; height = 0; samples = []; xs = s.args.xs
 pub loop-k-init : goal.loop-k-init
 unfolding tokens_before
 loop-k-init c =
-    (pieces_none c.args.out.now c.args.at (length c.args.xs.now) (λ i. entry_bytes (entry_of (lent c.before.before.before.before.before.before.before.before.before) i)) c.requires.3, refl)
+    (pieces_none c.args.out.now c.args.at (length c.args.xs.now) (λ i. entry_bytes (entry_of (lent (goal.at.loop-k-init c).Start) i)) c.requires.3, refl)
 
 -- the tokens of record k are there
 there : (c : In-loop-k) → let a = c.args in c.loop-k.from + get_or a.counts.now c.loop-k.k 0 ≤ length a.tokens.now
@@ -30,14 +29,14 @@ there c =
 pub put_record-place-requires : goal.put_record-place-requires
 put_record-place-requires c =
     let l = c.loop-k in
-    (c.loop-k-test.true, c.requires.0, l.invariant.1, there c.before, pieces_room l.invariant.0 c.loop-k-test.true)
+    (c.loop-k-test.true, c.requires.0, l.invariant.1, there (goal.at.put_record-place-requires c).In-loop-k, pieces_room l.invariant.0 c.loop-k-test.true)
 
 pub bounds-counts-k : goal.bounds-counts-k
 bounds-counts-k c = omega (arith, c.loop-k-test.true, c.requires.0.counts)
 
 pub overflow_add-from : goal.overflow_add-from
 overflow_add-from c =
-    omega (arith, there c.before.before.before.before.before.before, c.count32-from.ensures, c.requires.2)
+    omega (arith, there (goal.at.overflow_add-from c).In-loop-k, c.count32-from.ensures, c.requires.2)
 
 pub loop-k-preserved : goal.loop-k-preserved
 loop-k-preserved c =

@@ -1,8 +1,6 @@
 use mathlib.Core.Path.{sym}
-use Prim.Native.Nat.{◌-◌}
-use borrow.Author.Rules.{rules}
 use lib.ListN.{length, get_or}
-use Rattle.vbk_text.proofs.Writing.{put_as, room_as, Pieces, pieces_none, pieces_room, pieces_more, pieces_done, pieces_length}
+use Rattle.vbk_text.proofs.Writing.{put_as, room_as, pieces_none, pieces_room, pieces_more, pieces_done, pieces_length}
 use Rattle.vbk_write.specs.Bytes.{two}
 use Rattle.vbk_write.proofs.Joined.{joined_each}
 use Rattle.vbk_write.proofs.put_samples.Goals as goal

@@ -1,14 +1,8 @@
-use mathlib.Core.Path.{sym, ap}
 use Prim.Native.Nat.{◌+◌, ◌-◌}
-use native.Mathlib.Omega.{arith}
-use borrow.Author.Rules.{rules}
 use lib.IntN.{pos}
-use lib.ListN.{length, get_or}
-use Rattle.words.proofs.Signed.{back32}
-use Rattle.vbk_text.proofs.Writing.{put_as, room_as, Pieces, pieces_none, pieces_room, pieces_more, pieces_done, pieces_length}
+use lib.ListN.{get_or}
+use Rattle.vbk_text.proofs.Writing.{Pieces}
 use Rattle.vbk_write.specs.Bytes.{four}
-use Rattle.vbk_write.specs.Lent.{tokens_from}
-use Rattle.vbk_write.proofs.Joined.{joined_tabulate}
 use Rattle.vbk_write.proofs.put_tokens.Given as goal
 
 abbrev pub invariant-loop-j : goal.invariant-loop-j

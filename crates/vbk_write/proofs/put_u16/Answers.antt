@@ -13,3 +13,7 @@ bounds-out-at-2 c = lt-length-set c.args.out.now c.args.at _ (omega (arith, c.re
 pub returns : goal.returns
 unfolding two
 returns c = record { next_is = search rules; after_is = let a = c.args in sets_two a.out.now a.at (a.x % 256) (a.x / 256) }
+
+pub bounds-out-at : goal.bounds-out-at
+unfolding two
+bounds-out-at c = search rules

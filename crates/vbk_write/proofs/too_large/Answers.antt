@@ -1,7 +1,6 @@
 use mathlib.Core.Path.{◌≡◌, sym, ◌∙◌}
 use mathlib.Core.Bool.{false}
 use native.Mathlib.Omega.{arith}
-use borrow.Author.Rules.{rules}
 use Rattle.vbk_read.specs.Header.{bad_area}
 use Rattle.vbk_read.proofs.Headers.{area_ok}
 use Rattle.vbk_write.specs.Inner.{file_length}

@@ -1,10 +1,11 @@
 use mathlib.Core.Path.{◌≡◌, sym, ◌∙◌}
-use mathlib.Core.List.{◌++◌}
-use Prim.Native.Nat.{◌+◌}
+use mathlib.Core.List.{List, ◌++◌}
+use Prim.Native.Nat.{ℕ, ◌+◌}
 use native.Mathlib.Omega.{arith}
 use borrow.Author.Rules.{rules}
 use lib.ListN.{length}
 use lib.Seq.{sets}
+use Rattle.vbk_text.specs.Inner.{Put}
 use Rattle.vbk_text.proofs.Writing.{put_as, room_as, Todo, todo_all, todo_room, todo_next, todo_last}
 use Rattle.vbk_write.specs.Bytes.{two, joined}
 use Rattle.vbk_write.specs.Clip.{header_bytes}
@@ -14,7 +15,28 @@ use Rattle.vbk_write.proofs.Lengths.{file_length_lem}
 use Rattle.vbk_write.proofs.Answers.{taken}
 use Rattle.vbk_write.proofs.Writing.{entries, in_order, room, refused, done}
 use Rattle.vbk_write.proofs.vbk_write.Goals as goal
-use Rattle.vbk_write.proofs.vbk_write.Goals.{After-put_header-a, After-put_samples-b, Else-code-ne0, Start}
+use Rattle.vbk_write.proofs.vbk_write.Goals.{Start}
+
+-- what is left to write of l's file, from a place on, to end with the whole of it at the front of the buffer o
+abbrev Left : Lent → List ℕ → List ℕ → ℕ → List ℕ → Type 0
+Left l o out at rest =
+    let whole = header_bytes l.depth l.width l.height ++ (joined two l.samples ++ entries l) in
+    Todo out at rest (sets o 0 whole) (0 + length whole)
+
+module _ (l : Lent) (o : List ℕ) (fine : answer_of l (length o) ≡ 0) where
+  -- at first the whole file
+  left0 : Left l o o 0 (header_bytes l.depth l.width l.height ++ (joined two l.samples ++ entries l))
+  left0 =
+      todo_all o 0 (header_bytes l.depth l.width l.height ++ (joined two l.samples ++ entries l)) (room_as o 0 (sym (in_order l)) (room l o fine))
+
+  module _ {a : ℕ} {first : List ℕ} (p : Put o 0 (header_bytes l.depth l.width l.height) a first) where
+    -- after the header
+    left1 : Left l o first a (joined two l.samples ++ entries l)
+    left1 = todo_next (header_bytes l.depth l.width l.height) (joined two l.samples ++ entries l) left0 p
+
+    -- after the samples
+    left2 : {b : ℕ} {second : List ℕ} → Put first a (joined two l.samples) b second → Left l o second b (entries l)
+    left2 q = todo_next (joined two l.samples) (entries l) left1 q
 
 -- what is lent
 abbrev lent : Start → Lent
@@ -22,57 +44,37 @@ lent s = record { depth = s.args.depth; width = s.args.width; height = s.args.he
 
 pub returns-then-code-ne0 : goal.returns-then-code-ne0
 returns-then-code-ne0 c =
-    refused (lent c.before.before.before.before.before.before.before.before.before.before.before.before.before) c.args.out.now c.check-answer.ensures (λ z. c.if-code-ne0.true (c.code.ensures ∙ z)) (search rules)
-
--- nothing refuses
-fine : (c : Else-code-ne0) → answer_of (lent c.before.before.before.before.before.before.before.before.before.before.before.before.before) (length c.args.out.now) ≡ 0
-fine c = sym c.check-answer.ensures ∙ sym c.code.ensures ∙ c.if-code-ne0.false
-
--- what is left: at first the whole file
-left0 : (c : Else-code-ne0) → let l = lent c.before.before.before.before.before.before.before.before.before.before.before.before.before in
-    Todo c.args.out.now 0 (header_bytes l.depth l.width l.height ++ (joined two l.samples ++ entries l)) (sets c.args.out.now 0 (header_bytes l.depth l.width l.height ++ (joined two l.samples ++ entries l))) (0 + length (header_bytes l.depth l.width l.height ++ (joined two l.samples ++ entries l)))
-left0 c =
-    let l = lent c.before.before.before.before.before.before.before.before.before.before.before.before.before in
-    let o = c.args.out.now in
-    todo_all o 0 (header_bytes l.depth l.width l.height ++ (joined two l.samples ++ entries l)) (room_as o 0 (sym (in_order l)) (room l o (fine c)))
+    refused (lent (goal.at.returns-then-code-ne0 c).Start) c.args.out.now c.check-answer.ensures (λ z. c.if-code-ne0.true (c.code.ensures ∙ z)) (search rules)
 
 pub put_header-a-requires : goal.put_header-a-requires
 put_header-a-requires c =
-    let l = lent c.before.before.before.before.before.before.before.before.before.before.before.before.before.before in
-    todo_room (header_bytes l.depth l.width l.height) (joined two l.samples ++ entries l) (left0 c.before)
-
-left1 : (c : After-put_header-a) → let l = lent c.before.before.before.before.before.before.before.before.before.before.before.before.before.before.before in
-    Todo c.put_header-a.new.out c.put_header-a.result (joined two l.samples ++ entries l) (sets c.args.out.now 0 (header_bytes l.depth l.width l.height ++ (joined two l.samples ++ entries l))) (0 + length (header_bytes l.depth l.width l.height ++ (joined two l.samples ++ entries l)))
-left1 c =
-    let l = lent c.before.before.before.before.before.before.before.before.before.before.before.before.before.before.before in
-    todo_next (header_bytes l.depth l.width l.height) (joined two l.samples ++ entries l) (left0 c.before.before) c.put_header-a.ensures
+    let l = lent (goal.at.put_header-a-requires c).Start in
+    todo_room (header_bytes l.depth l.width l.height) (joined two l.samples ++ entries l)
+    (left0 l c.args.out.now (sym c.check-answer.ensures ∙ sym c.code.ensures ∙ c.if-code-ne0.false))
 
 pub put_samples-b-requires : goal.put_samples-b-requires
 put_samples-b-requires c =
-    let l = lent c.before.before.before.before.before.before.before.before.before.before.before.before.before.before.before.before.before.before in
-    todo_room (joined two l.samples) (entries l) (left1 c.before.before.before)
-
-left2 : (c : After-put_samples-b) → let l = lent c.before.before.before.before.before.before.before.before.before.before.before.before.before.before.before.before.before.before.before in
-    Todo c.put_samples-b.new.out c.put_samples-b.result (entries l) (sets c.args.out.now 0 (header_bytes l.depth l.width l.height ++ (joined two l.samples ++ entries l))) (0 + length (header_bytes l.depth l.width l.height ++ (joined two l.samples ++ entries l)))
-left2 c =
-    let l = lent c.before.before.before.before.before.before.before.before.before.before.before.before.before.before.before.before.before.before.before in
-    todo_next (joined two l.samples) (entries l) (left1 c.before.before.before.before) c.put_samples-b.ensures
+    let l = lent (goal.at.put_samples-b-requires c).Start in
+    todo_room (joined two l.samples) (entries l)
+    (left1 l c.args.out.now (sym c.check-answer.ensures ∙ sym c.code.ensures ∙ c.if-code-ne0.false) c.put_header-a.ensures)
 
 pub put_records-length-requires : goal.put_records-length-requires
 unfolding entry_of
 put_records-length-requires c =
-    let l = lent c.before.before.before.before.before.before.before.before.before.before.before.before.before.before.before.before.before.before.before.before.before.before in
-    let t = taken l (length c.args.out.now) (fine c.before.before.before.before.before.before.before.before.before) in
+    let l = lent (goal.at.put_records-length-requires c).Start in
+    let fine = sym c.check-answer.ensures ∙ sym c.code.ensures ∙ c.if-code-ne0.false in
+    let t = taken l (length c.args.out.now) fine in
     let a = t.fits.lists_are in (
       record { ys = a.ys; sizes = a.sizes; tx_types = a.tx_types; lossless = a.lossless; dcs = a.dcs; acs = a.acs; counts = a.counts },
       omega (arith, t.fits.total_is),
       omega (arith, t.short, file_length_lem l t.fits),
-      (left2 c.before.before.before).room,
+      (left2 l c.args.out.now fine c.put_header-a.ensures c.put_samples-b.ensures).room,
     )
 
 pub returns : goal.returns
 unfolding entry_of
 returns c =
-    let l = lent c.before.before.before.before.before.before.before.before.before.before.before.before.before.before.before.before.before.before.before.before.before.before.before.before.before in
-    done l c.args.out.now c.check-answer.ensures (fine c.before.before.before.before.before.before.before.before.before.before.before.before)
-    (put_as (in_order l) (todo_last (left2 c.before.before.before.before.before.before) c.put_records-length.ensures))
+    let l = lent (goal.at.returns c).Start in
+    let fine = sym c.check-answer.ensures ∙ sym c.code.ensures ∙ c.if-code-ne0.false in
+    done l c.args.out.now c.check-answer.ensures fine
+    (put_as (in_order l) (todo_last (left2 l c.args.out.now fine c.put_header-a.ensures c.put_samples-b.ensures) c.put_records-length.ensures))

@@ -1,9 +1,6 @@
 use mathlib.Core.Path.{◌≡◌, ap, ◌∙◌}
-use mathlib.Core.Bool.{true, false}
 use Prim.Native.Nat.{◌-◌}
-use borrow.Author.Rules.{rules}
-use lib.IntN.{pos, nat_abs}
-use lib.Signed.{lt_z}
+use lib.IntN.{nat_abs}
 use mir.Syntax.{w64}
 use mir.ValLaws.{to_z-of_z}
 use Rattle.words.proofs.Signed.{back32}
@@ -29,13 +26,13 @@ pub overflow_sub-result : goal.overflow_sub-result
 overflow_sub-result c = least c.args.t c.magnitude-m.result c.ranges.t.sfits (size_is c.before)
 
 pub overflow_cast-result : goal.overflow_cast-result
-overflow_cast-result c = record { fits = (neg c).ranges }
+overflow_cast-result c = record { fits = (neg c).fits }
 
 pub returns-then-t-lt0 : goal.returns-then-t-lt0
 returns-then-t-lt0 c = (neg c).is
 
 pub overflow_cast-result-2 : goal.overflow_cast-result-2
-overflow_cast-result-2 c = record { fits = (not_neg c).ranges }
+overflow_cast-result-2 c = record { fits = (not_neg c).fits }
 
 pub returns : goal.returns
 returns c = (not_neg c).is

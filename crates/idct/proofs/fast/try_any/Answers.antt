@@ -22,10 +22,10 @@ tested : (c : After-within) → c.within.result ≡ not (any_beyond COEF_LIMIT (
 tested c = rw c.area-count.ensures.0 at c.within.ensures
 
 beyond : (c : Then-not-within) → any_beyond COEF_LIMIT (area c.args.n) c.args.block.now ≡ true
-beyond c = not-false _ (sym (tested c.before) ∙ not-true _ c.if-not-within.true)
+beyond c = not-false _ (sym (tested c.before) ∙ c.if-not-within.true)
 
 within : (c : Else-not-within) → any_beyond COEF_LIMIT (area c.args.n) c.args.block.now ≡ false
-within c = not-true _ (sym (tested c.before) ∙ not-false _ c.if-not-within.false)
+within c = not-true _ (sym (tested c.before) ∙ c.if-not-within.false)
 
 pub returns-then-not-within : goal.returns-then-not-within
 returns-then-not-within c = left (given c.before.before.before.before) c.refused.ensures.0 c.refused.ensures.1 (beyond c.before)

@@ -41,7 +41,7 @@ slice_copy_out-is_beyond c = omega (arith, area_some c.args.n, c.requires.2)
 first : (c : After-is_beyond) → any_beyond COEF_LIMIT (area c.args.n) c.args.block.now ≡ c.is_beyond.result
 first c =
     dc_beyond c.args.n c.args.block.now c.requires.1.least c.requires.1.most c.requires.2 (only c.before.before).dead
-    ∙ sym (c.is_beyond.ensures ∙ rw (to_z-of_z {c = w64} (record { sfits = c.is_beyond-arg-1.given })))
+    ∙ sym (c.is_beyond.ensures ∙ rw (to_z-of_z {w = w64} (record { sfits = c.is_beyond-arg-1.given })))
 
 pub dc_fill-requires : goal.dc_fill-requires
 dc_fill-requires c =
@@ -66,10 +66,10 @@ tested : (c : After-within) → c.within.result ≡ not (any_beyond COEF_LIMIT (
 tested c = rw c.side-n0.ensures.0 at c.within.ensures
 
 beyond : (c : Then-not-within) → any_beyond COEF_LIMIT (area c.args.n) c.args.block.now ≡ true
-beyond c = not-false _ (sym (tested c.before) ∙ not-true _ c.if-not-within.true)
+beyond c = not-false _ (sym (tested c.before) ∙ c.if-not-within.true)
 
 within : (c : Else-not-within) → any_beyond COEF_LIMIT (area c.args.n) c.args.block.now ≡ false
-within c = not-true _ (sym (tested c.before) ∙ not-false _ c.if-not-within.false)
+within c = not-true _ (sym (tested c.before) ∙ c.if-not-within.false)
 
 pub returns-then-not-within : goal.returns-then-not-within
 returns-then-not-within c =

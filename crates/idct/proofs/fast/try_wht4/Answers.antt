@@ -16,10 +16,10 @@ abbrev given : Start → Input
 given s = record { block = s.args.block.now; n = 2; tx_type = 0; lossless = true }
 
 beyond : (c : Then-not-within) → any_beyond COEF_LIMIT 16 c.args.block.now ≡ true
-beyond c = not-false _ (sym c.within.ensures ∙ not-true _ c.if-not-within.true)
+beyond c = not-false _ (sym c.within.ensures ∙ c.if-not-within.true)
 
 within : (c : Else-not-within) → any_beyond COEF_LIMIT 16 c.args.block.now ≡ false
-within c = not-true _ (sym c.within.ensures ∙ not-false _ c.if-not-within.false)
+within c = not-true _ (sym c.within.ensures ∙ c.if-not-within.false)
 
 pub returns-then-not-within : goal.returns-then-not-within
 returns-then-not-within c = left (given c.before.before.before) c.refused.ensures.0 c.refused.ensures.1 (beyond c.before)

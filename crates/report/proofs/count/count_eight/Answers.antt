@@ -1,21 +1,15 @@
 use mathlib.Core.Path.{◌≡◌, refl, sym, ap, ◌∙◌}
-use mathlib.Core.Bool.{Bool, true, false, not}
-use Prim.Native.Nat.{ℕ, ◌+◌, ◌-◌, ◌*◌, ◌≤◌, ◌<◌}
+use Prim.Native.Nat.{ℕ, ◌+◌, ◌*◌, ◌<◌}
 use native.Mathlib.Omega.{arith}
 use lib.IntN.{pos, nat_abs}
 use lib.ListN.{get_or}
 use mir.Syntax.{w64}
 use mir.ValLaws.{to_z-of_z}
 use Rattle.report.specs.Classes.{one, itself}
-use Rattle.report.specs.Inner.{IsClass, Noted, Room}
+use Rattle.report.specs.Inner.{IsClass, Room}
 use Rattle.report.proofs.Notes.{note_none, note_token, note_join, zeros_counted, zeros_summed, room_after}
-use borrow.Author.Rules.{rules}
 use Rattle.report.proofs.count.count_eight.Goals as goal
 use Rattle.report.proofs.count.count_eight.Goals.{After-class_of}
-
-turned : (b : Bool) → not b ≡ true → b ≡ false
-turned true h = sym h
-turned false h = refl
 
 -- eight zeros
 pub overflow_add-counts : goal.overflow_add-counts
@@ -25,7 +19,7 @@ overflow_add-counts c =
 pub returns-then-not-any_live : goal.returns-then-not-any_live
 returns-then-not-any_live c =
     let a = c.args in
-    let z = sym c.any_live.ensures ∙ turned _ c.if-not-any_live.true in
+    let z = sym c.any_live.ensures ∙ c.if-not-any_live.true in
     (zeros_counted a.size a.start 8 a.tokens.now z a.counts.now, zeros_summed a.size a.start 8 a.tokens.now z a.sums.now)
 
 pub loop-i-init : goal.loop-i-init

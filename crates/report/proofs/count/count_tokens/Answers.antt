@@ -1,10 +1,8 @@
-use mathlib.Core.Path.{◌≡◌, sym}
-use Prim.Native.Nat.{◌+◌, ◌-◌, ◌*◌, ◌/◌, ◌≤◌}
+use mathlib.Core.Path.{◌≡◌}
+use Prim.Native.Nat.{◌+◌, ◌*◌, ◌/◌}
 use native.Mathlib.Omega.{arith}
-use borrow.Author.Rules.{rules}
 use lib.ListN.{length}
 use Rattle.report.specs.Classes.{one, itself}
-use Rattle.report.specs.Inner.{Noted}
 use Rattle.report.proofs.Notes.{note_none, note_join, room_after, area_eights}
 use Rattle.report.proofs.count.count_tokens.Goals as goal
 use Rattle.report.proofs.count.count_tokens.Goals.{Start}

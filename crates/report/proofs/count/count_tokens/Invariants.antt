@@ -1,11 +1,6 @@
-use mathlib.Core.Path.{◌≡◌, sym}
-use Prim.Native.Nat.{◌+◌, ◌-◌, ◌*◌, ◌/◌, ◌≤◌}
-use native.Mathlib.Omega.{arith}
-use borrow.Author.Rules.{rules}
-use lib.ListN.{length}
+use Prim.Native.Nat.{◌-◌, ◌*◌, ◌≤◌}
 use Rattle.report.specs.Classes.{one, itself}
 use Rattle.report.specs.Inner.{Noted}
-use Rattle.report.proofs.Notes.{note_none, note_join, room_after, area_eights}
 use Rattle.report.proofs.count.count_tokens.Given as goal
 
 abbrev pub invariant-loop-i : goal.invariant-loop-i

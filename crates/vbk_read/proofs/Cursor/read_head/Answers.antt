@@ -1,5 +1,4 @@
 use Rattle.vbk_read.proofs.Records.{head}
-use borrow.Author.Rules.{rules}
 use Rattle.vbk_read.proofs.Cursor.read_head.Goals as goal
 
 pub returns : goal.returns

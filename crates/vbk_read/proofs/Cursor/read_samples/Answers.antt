@@ -1,9 +1,8 @@
 use mathlib.Core.Path.{◌≡◌, refl, ap, ◌∙◌}
-use Prim.Native.Nat.{ℕ, ◌+◌, ◌*◌, ◌-◌, ◌≤◌}
+use Prim.Native.Nat.{ℕ, ◌+◌, ◌*◌}
 use native.Mathlib.Omega.{arith}
 use borrow.Author.Rules.{rules}
-use lib.ListN.{length, set}
-use Rattle.whole.specs.Lists.{fill}
+use lib.ListN.{set}
 use Rattle.whole.proofs.Lists.{fill_none, fill_more, fill_done}
 use Rattle.vbk_read.specs.Bytes.{le2}
 use Rattle.vbk_read.specs.Header.{sample_at}

@@ -1,16 +1,8 @@
-use mathlib.Core.Path.{◌≡◌, refl, ap, ◌∙◌}
-use Prim.Native.Nat.{ℕ, ◌+◌, ◌*◌, ◌-◌, ◌≤◌}
-use native.Mathlib.Omega.{arith}
-use borrow.Author.Rules.{rules}
-use lib.ListN.{length, set}
-use mir.Syntax.{w64}
-use mir.Val.{to_z, of_z}
-use mir.ValLaws.{to_z-of_z}
+use mathlib.Core.Path.{◌≡◌}
+use Prim.Native.Nat.{◌+◌, ◌*◌, ◌-◌, ◌≤◌}
+use lib.ListN.{length}
 use Rattle.whole.specs.Lists.{fill}
-use Rattle.whole.proofs.Lists.{fill_none, fill_more, fill_done}
-use Rattle.vbk_read.specs.Bytes.{le4, signed32}
 use Rattle.vbk_read.specs.Records.{token_at}
-use Rattle.words.proofs.Signed.{back32}
 use Rattle.vbk_read.proofs.Cursor.read_tokens.Given as goal
 
 abbrev pub invariant-loop-k : goal.invariant-loop-k
