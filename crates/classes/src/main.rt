@@ -5,7 +5,8 @@
 
 ghost use Rattle.std.specs.Prelude.{◌≡◌, ◌≤◌, length};
 
-use libc::{STDERR_FILENO, STDIN_FILENO, STDOUT_FILENO};
+use std::io::{Read, Write};
+use std::rt::{Env, Files};
 
 // Bytes that fill the room for a file.
 const FULL: usize = 65536;
@@ -24,28 +25,22 @@ fn answers() -> [u8; 874]
     [0; 874]
 }
 
-// Whether the input is at its end: one more read gives nothing. Where a read fails, or failed before, it gives something else.
-fn at_end(fd: i32) -> bool {
-    let mut one = [0u8; 1];
-    libc::read(fd, &mut one) == 0
-}
-
 // What is not counted of a file, and why.
-fn left_out(path: &[u8], why: &[u8]) {
-    io::write_all(STDERR_FILENO, path);
-    io::write_all(STDERR_FILENO, why);
+fn left_out<E: Write>(errors: &mut E, path: &[u8], why: &[u8]) {
+    streams::write_all(errors, path);
+    streams::write_all(errors, why);
 }
 
 // The number of an answer, at the end of a line. ../../classes has its words.
-fn tell_answer(number: u64) {
-    io::print_decimal(STDERR_FILENO, number);
-    io::write_all(STDERR_FILENO, &[b'\n']);
+fn tell_answer<E: Write>(errors: &mut E, number: u64) {
+    streams::print_decimal(errors, number);
+    streams::write_all(errors, &[b'\n']);
 }
 
 // A file whose header is refused, with its number.
-fn refused(path: &[u8], number: u32) {
-    left_out(path, b": refused: ");
-    tell_answer(number as u64);
+fn refused<E: Write>(errors: &mut E, path: &[u8], number: u32) {
+    left_out(errors, path, b": refused: ");
+    tell_answer(errors, number as u64);
 }
 
 // 1 where record k is one of the first n and has this answer.
@@ -71,35 +66,41 @@ fn count_of(answers: &[u8; 874], n: usize, number: u8) -> u64 {
 }
 
 // `FILE: 2 of 12 records not counted: 5`
-fn uncounted(path: &[u8], some: u64, n: usize, number: u8) {
-    left_out(path, b": ");
-    io::print_decimal(STDERR_FILENO, some);
-    io::write_all(STDERR_FILENO, b" of ");
-    io::print_decimal(STDERR_FILENO, n as u64);
-    io::write_all(STDERR_FILENO, b" records not counted: ");
-    tell_answer(number as u64);
+fn uncounted<E: Write>(errors: &mut E, path: &[u8], some: u64, n: usize, number: u8) {
+    left_out(errors, path, b": ");
+    streams::print_decimal(errors, some);
+    streams::write_all(errors, b" of ");
+    streams::print_decimal(errors, n as u64);
+    streams::write_all(errors, b" records not counted: ");
+    tell_answer(errors, number as u64);
 }
 
 // The records that are not counted, answer by answer.
-fn tell_records(path: &[u8], answers: &[u8; 874], n: usize) {
+fn tell_records<E: Write>(errors: &mut E, path: &[u8], answers: &[u8; 874], n: usize) {
     for number in 1..21u8 {
         let some = count_of(answers, n, number);
         if some != 0 {
-            uncounted(path, some, n, number);
+            uncounted(errors, path, some, n, number);
         }
     }
 }
 
-// Runs the file of a descriptor over the report; whether it has a run. A file of 65,536 bytes or more fills its room, and is too large
+// Runs the file that the input is over the report; whether it has a run. A file of 65,536 bytes or more fills its room, and is too large
 // whatever follows.
-fn run(fd: i32, path: &[u8], counts: &mut [u32; 44], sums: &mut [u64; 44]) -> bool {
-    let mut file = io::large_buffer();
+fn run<I: Read, E: Write>(
+    input: &mut I,
+    errors: &mut E,
+    path: &[u8],
+    counts: &mut [u32; 44],
+    sums: &mut [u64; 44],
+) -> bool {
+    let mut file = streams::large_buffer();
     let mut samples = samples();
     let mut answers = answers();
-    let n = io::read_full(fd, &mut file);
+    let n = streams::read_full(input, &mut file);
     if n < FULL {
-        if !at_end(fd) {
-            left_out(path, b": could not be read to its end\n");
+        if !streams::at_end(input) {
+            left_out(errors, path, b": could not be read to its end\n");
             return false;
         }
     }
@@ -107,10 +108,10 @@ fn run(fd: i32, path: &[u8], counts: &mut [u32; 44], sums: &mut [u64; 44]) -> bo
     let answer = run.answer;
     let number = answers::code(answer);
     if number != 0 {
-        refused(path, number);
+        refused(errors, path, number);
         return false;
     }
-    tell_records(path, &answers, run.count);
+    tell_records(errors, path, &answers, run.count);
     true
 }
 
@@ -122,58 +123,69 @@ fn is_dash(path: &[u8]) -> bool {
     path[0] == b'-'
 }
 
-fn run_file(path: &[u8], counts: &mut [u32; 44], sums: &mut [u64; 44]) -> bool {
+fn run_file<R: Files + Input, E: Write>(
+    rt: &R,
+    errors: &mut E,
+    path: &[u8],
+    counts: &mut [u32; 44],
+    sums: &mut [u64; 44],
+) -> bool {
     if is_dash(path) {
-        return run(STDIN_FILENO, path, counts, sums);
+        return run(&mut rt.reader(), errors, path, counts, sums);
     }
-    let fd = os::open_read(path);
-    if fd < 0 {
-        os::fail(path);
-        return false;
+    match streams::open_read(rt, path) {
+        Ok(mut file) => run(&mut file, errors, path, counts, sums),
+        Err(error) => {
+            streams::fail(errors, path, error);
+            false
+        }
     }
-    let ran = run(fd, path, counts, sums);
-    libc::close(fd);
-    ran
 }
 
-fn run_argument(i: usize, counts: &mut [u32; 44], sums: &mut [u64; 44]) -> bool {
-    let mut path = io::buffer();
-    let n = os::arg(i, &mut path);
-    run_file(&path[..n], counts, sums)
+fn run_argument<R: Env + Files + Input, E: Write>(
+    rt: &R,
+    errors: &mut E,
+    i: usize,
+    counts: &mut [u32; 44],
+    sums: &mut [u64; 44],
+) -> bool {
+    let mut path = streams::buffer();
+    let n = streams::arg(rt, i, &mut path);
+    run_file(rt, errors, &path[..n], counts, sums)
 }
 
 // Bytes; false where this or a write before it failed.
-fn put(good: bool, bytes: &[u8]) -> bool {
+fn put<O: Write>(output: &mut O, good: bool, bytes: &[u8]) -> bool {
     if !good {
         return false;
     }
-    io::write_all(STDOUT_FILENO, bytes)
+    streams::write_all(output, bytes)
 }
 
 // A number after a mark.
-fn put_number(good: bool, mark: u8, n: u64) -> bool {
-    if !put(good, &[mark]) {
+fn put_number<O: Write>(output: &mut O, good: bool, mark: u8, n: u64) -> bool {
+    if !put(output, good, &[mark]) {
         return false;
     }
-    io::print_decimal(STDOUT_FILENO, n)
+    streams::print_decimal(output, n)
 }
 
 // One line: size, class, count, sum.
-fn put_entry(size: u64, class: u64, count: u32, sum: u64) -> bool {
-    let begun = put(true, b"C");
-    let sized = put_number(begun, b' ', size);
-    let classed = put_number(sized, b' ', class);
-    let counted = put_number(classed, b' ', count as u64);
-    let summed = put_number(counted, b' ', sum);
-    put(summed, b"\n")
+fn put_entry<O: Write>(output: &mut O, size: u64, class: u64, count: u32, sum: u64) -> bool {
+    let begun = put(output, true, b"C");
+    let sized = put_number(output, begun, b' ', size);
+    let classed = put_number(output, sized, b' ', class);
+    let counted = put_number(output, classed, b' ', count as u64);
+    let summed = put_number(output, counted, b' ', sum);
+    put(output, summed, b"\n")
 }
 
 // The lines of all sizes and classes.
-fn put_entries(counts: &[u32; 44], sums: &[u64; 44]) -> bool {
+fn put_entries<O: Write>(output: &mut O, counts: &[u32; 44], sums: &[u64; 44]) -> bool {
     let mut good = true;
     for k in 0..44usize {
         if good {
-            good = put_entry((k / 11) as u64, (k % 11) as u64, counts[k], sums[k]);
+            good = put_entry(output, (k / 11) as u64, (k % 11) as u64, counts[k], sums[k]);
         }
     }
     good
@@ -188,12 +200,13 @@ fn total(counts: &[u32; 44]) -> u64 {
     all
 }
 
-fn put_report(counts: &[u32; 44], sums: &[u64; 44]) -> bool {
-    if !put_entries(counts, sums) {
+fn put_report<O: Write>(output: &mut O, counts: &[u32; 44], sums: &[u64; 44]) -> bool {
+    if !put_entries(output, counts, sums) {
         return false;
     }
-    let begun = put(true, b"N");
-    put(put_number(begun, b' ', total(counts)), b"\n")
+    let begun = put(output, true, b"N");
+    let counted = put_number(output, begun, b' ', total(counts));
+    put(output, counted, b"\n")
 }
 
 // The least magnitude of a class.
@@ -230,31 +243,31 @@ fn class_to(class: usize) -> u64 {
 }
 
 // The fields from and to of a class: the last one has no end.
-fn put_class(good: bool, class: usize) -> bool {
-    let begun = put_number(good, b',', class_from(class));
+fn put_class<O: Write>(output: &mut O, good: bool, class: usize) -> bool {
+    let begun = put_number(output, good, b',', class_from(class));
     if 9 < class {
-        return put(begun, b",");
+        return put(output, begun, b",");
     }
-    put_number(begun, b',', class_to(class))
+    put_number(output, begun, b',', class_to(class))
 }
 
 // A byte of a file's name, between quotation marks: one that is a mark itself stands twice.
-fn put_byte(good: bool, b: u8) -> bool {
+fn put_byte<O: Write>(output: &mut O, good: bool, b: u8) -> bool {
     if b == b'"' {
-        return put(good, &[b, b]);
+        return put(output, good, &[b, b]);
     }
-    put(good, &[b])
+    put(output, good, &[b])
 }
 
 // A file's name as the first field of a row.
-fn put_name(good: bool, name: &[u8]) -> bool {
-    let mut whole = put(good, &[b'"']);
+fn put_name<O: Write>(output: &mut O, good: bool, name: &[u8]) -> bool {
+    let mut whole = put(output, good, &[b'"']);
     let mut i = 0;
     while i < name.len() {
-        whole = put_byte(whole, name[i]);
+        whole = put_byte(output, whole, name[i]);
         i += 1;
     }
-    put(whole, &[b'"'])
+    put(output, whole, &[b'"'])
 }
 
 // What a report counts more than another: 0 where that is nothing.
@@ -266,18 +279,26 @@ fn grown(now: u64, before: u64) -> u64 {
 }
 
 // A row: file, size, class, from, to, count, sum.
-fn put_row(good: bool, name: &[u8], k: usize, count: u64, sum: u64) -> bool {
-    let named = put_name(good, name);
-    let sized = put_number(named, b',', (k / 11) as u64);
-    let classed = put_number(sized, b',', (k % 11) as u64);
-    let bounded = put_class(classed, k % 11);
-    let counted = put_number(bounded, b',', count);
-    let summed = put_number(counted, b',', sum);
-    put(summed, b"\n")
+fn put_row<O: Write>(
+    output: &mut O,
+    good: bool,
+    name: &[u8],
+    k: usize,
+    count: u64,
+    sum: u64,
+) -> bool {
+    let named = put_name(output, good, name);
+    let sized = put_number(output, named, b',', (k / 11) as u64);
+    let classed = put_number(output, sized, b',', (k % 11) as u64);
+    let bounded = put_class(output, classed, k % 11);
+    let counted = put_number(output, bounded, b',', count);
+    let summed = put_number(output, counted, b',', sum);
+    put(output, summed, b"\n")
 }
 
 // The rows of what a report counts more than an older one.
-fn put_rows(
+fn put_rows<O: Write>(
+    output: &mut O,
     good: bool,
     name: &[u8],
     old_counts: &[u32; 44],
@@ -288,12 +309,14 @@ fn put_rows(
     let mut whole = good;
     for k in 0..44usize {
         let count = grown(words::wide32(counts[k]), words::wide32(old_counts[k]));
-        whole = put_row(whole, name, k, count, grown(sums[k], old_sums[k]));
+        whole = put_row(output, whole, name, k, count, grown(sums[k], old_sums[k]));
     }
     whole
 }
 
-fn put_argument(
+fn put_argument<R: Env, O: Write>(
+    rt: &R,
+    output: &mut O,
     good: bool,
     i: usize,
     old_counts: &[u32; 44],
@@ -301,46 +324,58 @@ fn put_argument(
     counts: &[u32; 44],
     sums: &[u64; 44],
 ) -> bool {
-    let mut path = io::buffer();
-    let n = os::arg(i, &mut path);
-    put_rows(good, &path[..n], old_counts, old_sums, counts, sums)
+    let mut path = streams::buffer();
+    let n = streams::arg(rt, i, &mut path);
+    put_rows(output, good, &path[..n], old_counts, old_sums, counts, sums)
 }
 
-fn tell_unwritten(good: bool) {
+fn tell_unwritten<E: Write>(errors: &mut E, good: bool) {
     if !good {
-        io::write_all(STDERR_FILENO, b"the text could not be written to its end\n");
+        streams::write_all(errors, b"the text could not be written to its end\n");
     }
 }
 
 // The report of all files.
-fn report(count: usize) {
+fn report<R: Env + Files + Input, O: Write, E: Write>(
+    rt: &R,
+    output: &mut O,
+    errors: &mut E,
+    count: usize,
+) {
     let mut counts = [0u32; 44];
     let mut sums = [0u64; 44];
     let mut i = 1;
     while i < count {
-        run_argument(i, &mut counts, &mut sums);
+        run_argument(rt, errors, i, &mut counts, &mut sums);
         i += 1;
     }
-    tell_unwritten(put_report(&counts, &sums));
+    let good = put_report(output, &counts, &sums);
+    tell_unwritten(errors, good);
 }
 
 // The table of each file, and of all.
-fn table(count: usize) {
+fn table<R: Env + Files + Input, O: Write, E: Write>(
+    rt: &R,
+    output: &mut O,
+    errors: &mut E,
+    count: usize,
+) {
     let none = [0u32; 44];
     let nothing = [0u64; 44];
     let mut counts = none;
     let mut sums = nothing;
-    let mut good = put(true, b"file,size,class,from,to,count,sum\n");
+    let mut good = put(output, true, b"file,size,class,from,to,count,sum\n");
     let mut i = 2;
     while i < count {
         let old_counts = counts;
         let old_sums = sums;
-        if run_argument(i, &mut counts, &mut sums) {
-            good = put_argument(good, i, &old_counts, &old_sums, &counts, &sums);
+        if run_argument(rt, errors, i, &mut counts, &mut sums) {
+            good = put_argument(rt, output, good, i, &old_counts, &old_sums, &counts, &sums);
         }
         i += 1;
     }
-    tell_unwritten(put_rows(good, b"all", &none, &nothing, &counts, &sums));
+    let whole = put_rows(output, good, b"all", &none, &nothing, &counts, &sums);
+    tell_unwritten(errors, whole);
 }
 
 // Whether the first word is --csv.
@@ -363,20 +398,22 @@ fn is_csv(word: &[u8]) -> bool {
     word[4] == b'v'
 }
 
-fn wants_csv(count: usize) -> bool {
+fn wants_csv<R: Env>(rt: &R, count: usize) -> bool {
     if count < 2 {
         return false;
     }
-    let mut word = io::buffer();
-    let n = os::arg(1, &mut word);
+    let mut word = streams::buffer();
+    let n = streams::arg(rt, 1, &mut word);
     is_csv(&word[..n])
 }
 
-fn main() {
-    let count = os::arg_count();
-    if wants_csv(count) {
-        table(count);
+fn main(rt: HostRuntime) {
+    let mut output = rt.stdout();
+    let mut errors = rt.stderr();
+    let count = streams::arg_count(&rt);
+    if wants_csv(&rt, count) {
+        table(&rt, &mut output, &mut errors, count);
         return;
     }
-    report(count);
+    report(&rt, &mut output, &mut errors, count);
 }

@@ -1,19 +1,19 @@
-// What the programs that make and dump clips share: room for a text, what is made to standard output, or one line on standard error. No
-// contract can say what is read or written. A program has no status to end with: ../../tools/program turns a line on standard error into one.
+// What the programs that make and dump clips share: room for a text, what is made to one writer, or one line to another, which is standard
+// error. A program has no status to end with: ../../tools/program turns a line on standard error into one.
 #![tactic(auto)]
 
 ghost use Rattle.std.specs.Prelude.{◌≤◌};
 
-use libc::{STDERR_FILENO, STDOUT_FILENO};
+use std::io::{Read, Write};
 
 // Room for a text, and for one byte that shows it too long.
 pub fn text_room() -> [u8; 1048576] {
     [0; 1048576]
 }
 
-// A text from a descriptor: how many bytes.
-pub fn read_text(fd: i32, text: &mut [u8; 1048576]) -> usize {
-    io::read_full(fd, text)
+// A text from a reader: how many bytes.
+pub fn read_text<I: Read>(input: &mut I, text: &mut [u8; 1048576]) -> usize {
+    streams::read_full(input, text)
 }
 
 // How a text is written, by its first two bytes: 0 in bytes, 1 in UTF-16 with the low byte of each pair first, 2 with the high byte first. A
@@ -93,33 +93,38 @@ pub fn front(bytes: &[u8], n: usize) -> &[u8] {
 }
 
 // Whether the input is at its end: one more read gives nothing. Where a read fails, or failed before, it gives something else.
-pub fn at_end(fd: i32) -> bool {
-    let mut one = [0u8; 1];
-    libc::read(fd, &mut one) == 0
+pub fn at_end<I: Read>(input: &mut I) -> bool {
+    streams::at_end(input)
 }
 
 // Words for standard error.
-pub fn tell(words: &[u8]) {
-    io::write_all(STDERR_FILENO, words);
+pub fn tell<E: Write>(errors: &mut E, words: &[u8]) {
+    streams::write_all(errors, words);
 }
 
 // What was made, to standard output.
-pub fn put_out(bytes: &[u8]) {
-    if !io::write_all(STDOUT_FILENO, bytes) {
-        tell(b"the output could not be written to its end\n");
+pub fn put_out<O: Write, E: Write>(output: &mut O, errors: &mut E, bytes: &[u8]) {
+    if !streams::write_all(output, bytes) {
+        tell(errors, b"the output could not be written to its end\n");
     }
 }
 
 // What was made, or the words on what is wrong.
-pub fn hand_out(good: bool, bytes: &[u8]) {
+pub fn hand_out<O: Write, E: Write>(output: &mut O, errors: &mut E, good: bool, bytes: &[u8]) {
     if !good {
-        tell(bytes);
+        tell(errors, bytes);
         return;
     }
-    put_out(bytes);
+    put_out(output, errors, bytes);
 }
 
 // The same of a text in its room.
-pub fn hand_text(good: bool, text: &[u8; 1048576], n: usize) {
-    hand_out(good, front(text, n));
+pub fn hand_text<O: Write, E: Write>(
+    output: &mut O,
+    errors: &mut E,
+    good: bool,
+    text: &[u8; 1048576],
+    n: usize,
+) {
+    hand_out(output, errors, good, front(text, n));
 }

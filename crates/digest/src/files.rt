@@ -189,7 +189,7 @@ fn feed_run(digest: u64, run: vbk::Run, samples: &[u16], answers: &[u8]) -> u64 
 fn ran(file: &[u8], digest: u64) -> u64 {
     let mut samples = samples();
     let mut answers = answers();
-    let mut out = io::large_buffer();
+    let mut out = streams::large_buffer();
     let run = vbk::replay(file, &mut samples, &mut answers);
     let d = feed_run(digest, run, &samples, &answers);
     let m = vbk::blockrun(file, &mut samples, &mut answers, &mut out);

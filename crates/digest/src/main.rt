@@ -10,7 +10,7 @@ mod rows;
 mod samples;
 mod written;
 
-use libc::{STDERR_FILENO, STDIN_FILENO, STDOUT_FILENO};
+use std::io::Write;
 
 // Kinds of calls. A new one is added at the end.
 const KINDS: u64 = 16;
@@ -49,73 +49,71 @@ fn calls(kind: u64, seed: u64, count: u64) -> u64 {
     digest
 }
 
-fn name(kind: u64) -> bool {
+fn name<O: Write>(output: &mut O, kind: u64) -> bool {
     match kind {
-        0 => io::write_all(STDOUT_FILENO, b"inverse_transform_2d           "),
-        1 => io::write_all(STDOUT_FILENO, b"inverse_transform_2d_reference "),
-        2 => io::write_all(STDOUT_FILENO, b"reconstruct_block              "),
-        3 => io::write_all(STDOUT_FILENO, b"forward_wht_2d                 "),
-        4 => io::write_all(STDOUT_FILENO, b"quantize_block_tx              "),
-        5 => io::write_all(STDOUT_FILENO, b"quantize_block                 "),
-        6 => io::write_all(STDOUT_FILENO, b"max_codeable_coef              "),
-        7 => io::write_all(STDOUT_FILENO, b"replay and blockrun            "),
-        8 => io::write_all(STDOUT_FILENO, b"reconstruct_block_report       "),
-        9 => io::write_all(STDOUT_FILENO, b"row_summary                    "),
-        10 => io::write_all(STDOUT_FILENO, b"replace_token                  "),
-        11 => io::write_all(STDOUT_FILENO, b"inverse_transform_2d_rows      "),
-        12 => io::write_all(STDOUT_FILENO, b"inverse_transform_2d_32        "),
-        13 => io::write_all(STDOUT_FILENO, b"forward_dct_2d                 "),
-        14 => io::write_all(STDOUT_FILENO, b"quantize_block_rule            "),
-        _ => io::write_all(STDOUT_FILENO, b"vbk_write                      "),
+        0 => streams::write_all(output, b"inverse_transform_2d           "),
+        1 => streams::write_all(output, b"inverse_transform_2d_reference "),
+        2 => streams::write_all(output, b"reconstruct_block              "),
+        3 => streams::write_all(output, b"forward_wht_2d                 "),
+        4 => streams::write_all(output, b"quantize_block_tx              "),
+        5 => streams::write_all(output, b"quantize_block                 "),
+        6 => streams::write_all(output, b"max_codeable_coef              "),
+        7 => streams::write_all(output, b"replay and blockrun            "),
+        8 => streams::write_all(output, b"reconstruct_block_report       "),
+        9 => streams::write_all(output, b"row_summary                    "),
+        10 => streams::write_all(output, b"replace_token                  "),
+        11 => streams::write_all(output, b"inverse_transform_2d_rows      "),
+        12 => streams::write_all(output, b"inverse_transform_2d_32        "),
+        13 => streams::write_all(output, b"forward_dct_2d                 "),
+        14 => streams::write_all(output, b"quantize_block_rule            "),
+        _ => streams::write_all(output, b"vbk_write                      "),
     }
 }
 
 // A digest, as sixteen digits on what is left of the line.
-fn show(digest: u64) -> bool {
-    if !io::print_hex(STDOUT_FILENO, digest, 16) {
+fn show<O: Write>(output: &mut O, digest: u64) -> bool {
+    if !streams::print_hex(output, digest) {
         return false;
     }
-    io::write_all(STDOUT_FILENO, b"\n")
+    streams::write_all(output, b"\n")
 }
 
 // A line for each kind, then the one number; whether all was written.
-fn all(seed: u64, count: u64) -> bool {
+fn all<O: Write>(output: &mut O, seed: u64, count: u64) -> bool {
     let mut digest = draws::feed(seed, count);
     let mut written = true;
     let mut kind = 0;
     while kind < KINDS {
         let d = calls(kind, seed, count);
         digest = draws::feed(digest, d);
-        if !name(kind) {
+        if !name(output, kind) {
             written = false;
         }
-        if !show(d) {
+        if !show(output, d) {
             written = false;
         }
         kind += 1;
     }
-    if !io::write_all(STDOUT_FILENO, b"digest                         ") {
+    if !streams::write_all(output, b"digest                         ") {
         written = false;
     }
-    if !show(digest) {
+    if !show(output, digest) {
         written = false;
     }
     written
 }
 
-fn main() {
-    let mut buffer = io::buffer();
-    let n = io::read_full(STDIN_FILENO, &mut buffer);
+fn main(rt: HostRuntime) {
+    let mut errors = rt.stderr();
+    let mut buffer = streams::buffer();
+    let n = streams::read_full(&mut rt.stdin(), &mut buffer);
     let seed = lines::read_first(&buffer[..n]);
     let count = lines::read_unsigned(&buffer[..n], seed.next);
     if count.next == lines::BROKEN {
-        io::write_all(STDERR_FILENO, b"no seed and count on standard input\n");
+        streams::write_all(&mut errors, b"no seed and count on standard input\n");
         return;
     }
-    if !all(seed.value, count.value) {
-        io::write_all(
-            STDERR_FILENO,
-            b"the digest could not be written to its end\n",
-        );
+    if !all(&mut rt.stdout(), seed.value, count.value) {
+        streams::write_all(&mut errors, b"the digest could not be written to its end\n");
     }
 }

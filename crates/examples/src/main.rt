@@ -1,35 +1,44 @@
 // Runs each VBK file that its arguments name, and writes the name on a line and the run's text after it.
 #![tactic(auto)]
 
-use libc::STDOUT_FILENO;
+use std::io::Write;
+use std::rt::{Env, Files};
 
-fn newline() {
-    io::write_all(STDOUT_FILENO, &[b'\n']);
+fn newline<O: Write>(output: &mut O) {
+    streams::write_all(output, &[b'\n']);
 }
 
-fn run_file(path: &[u8]) {
-    let fd = os::open_read(path);
-    if fd < 0 {
-        os::fail(path);
-        return;
+fn run_file<R: Files, O: Write, E: Write>(rt: &R, output: &mut O, errors: &mut E, path: &[u8]) {
+    match streams::open_read(rt, path) {
+        Ok(mut file) => {
+            streams::write_all(output, path);
+            newline(output);
+            vbk_io::run(&mut file, output, errors);
+        }
+        Err(error) => {
+            streams::fail(errors, path, error);
+        }
     }
-    io::write_all(STDOUT_FILENO, path);
-    newline();
-    vbk_io::run(fd);
-    libc::close(fd);
 }
 
-fn run_argument(i: usize) {
-    let mut path = io::buffer();
-    let n = os::arg(i, &mut path);
-    run_file(&path[..n]);
+fn run_argument<R: Env + Files, O: Write, E: Write>(
+    rt: &R,
+    output: &mut O,
+    errors: &mut E,
+    i: usize,
+) {
+    let mut path = streams::buffer();
+    let n = streams::arg(rt, i, &mut path);
+    run_file(rt, output, errors, &path[..n]);
 }
 
-fn main() {
-    let count = os::arg_count();
+fn main(rt: HostRuntime) {
+    let mut output = rt.stdout();
+    let mut errors = rt.stderr();
+    let count = streams::arg_count(&rt);
     let mut i = 1;
     while i < count {
-        run_argument(i);
+        run_argument(&rt, &mut output, &mut errors, i);
         i += 1;
     }
 }

@@ -1,21 +1,21 @@
 // Numbers of docs/REFERENCE.md that are run and not proved: a line for each call, with what it gives.
 #![tactic(auto)]
 
-use libc::STDOUT_FILENO;
+use std::io::Write;
 
-fn show_number(call: &[u8], value: u64) {
-    io::write_all(STDOUT_FILENO, call);
-    io::print_decimal(STDOUT_FILENO, value);
-    io::write_all(STDOUT_FILENO, b"\n");
+fn show_number<O: Write>(output: &mut O, call: &[u8], value: u64) {
+    streams::write_all(output, call);
+    streams::print_decimal(output, value);
+    streams::write_all(output, b"\n");
 }
 
-fn show(call: &[u8], value: i64) {
-    io::write_all(STDOUT_FILENO, call);
+fn show<O: Write>(output: &mut O, call: &[u8], value: i64) {
+    streams::write_all(output, call);
     if value < 0 {
-        io::write_all(STDOUT_FILENO, b"-");
+        streams::write_all(output, b"-");
     }
-    io::print_decimal(STDOUT_FILENO, answers::magnitude(value));
-    io::write_all(STDOUT_FILENO, b"\n");
+    streams::print_decimal(output, answers::magnitude(value));
+    streams::write_all(output, b"\n");
 }
 
 fn zeros() -> [i64; 1024] {
@@ -78,16 +78,16 @@ fn wide(sample: u16) -> u64 {
     sample as u64
 }
 
-fn show_row(samples: &[u16]) {
+fn show_row<O: Write>(output: &mut O, samples: &[u16]) {
     for i in 0..samples.len() {
-        io::write_all(STDOUT_FILENO, b" ");
-        io::print_decimal(STDOUT_FILENO, wide(samples[i]));
+        streams::write_all(output, b" ");
+        streams::print_decimal(output, wide(samples[i]));
     }
-    io::write_all(STDOUT_FILENO, b"\n");
+    streams::write_all(output, b"\n");
 }
 
 // A plane of 6 by 5 samples of 100 after a lossless block at x, y whose residual is above 0 everywhere.
-fn show_plane(x: usize, y: usize) {
+fn show_plane<O: Write>(output: &mut O, x: usize, y: usize) {
     let mut samples = [100u16; 30];
     let mut tokens = [0i64; 16];
     tokens[0] = 5;
@@ -109,16 +109,16 @@ fn show_plane(x: usize, y: usize) {
         true,
         8,
     );
-    show_number(b"plane 6 by 5, answer ", answers::code(a) as u64);
-    show_row(&samples[0..6]);
-    show_row(&samples[6..12]);
-    show_row(&samples[12..18]);
-    show_row(&samples[18..24]);
-    show_row(&samples[24..30]);
+    show_number(output, b"plane 6 by 5, answer ", answers::code(a) as u64);
+    show_row(output, &samples[0..6]);
+    show_row(output, &samples[6..12]);
+    show_row(output, &samples[12..18]);
+    show_row(output, &samples[18..24]);
+    show_row(output, &samples[24..30]);
 }
 
 // The same in lines of 8: the last two samples of each are padding.
-fn show_padded(x: usize, y: usize) {
+fn show_padded<O: Write>(output: &mut O, x: usize, y: usize) {
     let mut samples = [100u16; 40];
     let mut tokens = [0i64; 16];
     tokens[0] = 5;
@@ -140,38 +140,62 @@ fn show_padded(x: usize, y: usize) {
         true,
         8,
     );
-    show_number(b"plane 6 by 5, stride 8, answer ", answers::code(a) as u64);
-    show_row(&samples[0..8]);
-    show_row(&samples[8..16]);
-    show_row(&samples[16..24]);
-    show_row(&samples[24..32]);
-    show_row(&samples[32..40]);
+    show_number(
+        output,
+        b"plane 6 by 5, stride 8, answer ",
+        answers::code(a) as u64,
+    );
+    show_row(output, &samples[0..8]);
+    show_row(output, &samples[8..16]);
+    show_row(output, &samples[16..24]);
+    show_row(output, &samples[24..32]);
+    show_row(output, &samples[32..40]);
 }
 
-fn show_coefficients() {
+fn show_coefficients<O: Write>(output: &mut O) {
     show(
+        output,
         b"32 by 32, DC quantizer 7, token 5: ",
         quant::DcQuant(7).dequant(5, 3),
     );
     show(
+        output,
         b"32 by 32, AC quantizer 7, token -5: ",
         quant::AcQuant(7).dequant(-5, 3),
     );
     show(
+        output,
         b"4 by 4, AC quantizer 8159, token 16450: ",
         quant::AcQuant(8159).dequant(16450, 0),
     );
     show(
+        output,
         b"32 by 32, AC quantizer 16318, token 16450: ",
         quant::AcQuant(16318).dequant(16450, 3),
     );
 }
 
-fn show_codeable() {
-    show(b"codeable at depth 8: ", quant::max_codeable_coef(8));
-    show(b"codeable at depth 10: ", quant::max_codeable_coef(10));
-    show(b"codeable at depth 12: ", quant::max_codeable_coef(12));
-    show(b"codeable at depth 9: ", quant::max_codeable_coef(9));
+fn show_codeable<O: Write>(output: &mut O) {
+    show(
+        output,
+        b"codeable at depth 8: ",
+        quant::max_codeable_coef(8),
+    );
+    show(
+        output,
+        b"codeable at depth 10: ",
+        quant::max_codeable_coef(10),
+    );
+    show(
+        output,
+        b"codeable at depth 12: ",
+        quant::max_codeable_coef(12),
+    );
+    show(
+        output,
+        b"codeable at depth 9: ",
+        quant::max_codeable_coef(9),
+    );
 }
 
 // The answer of the 2D driver to one coefficient at place 0 of a 4 by 4 block.
@@ -195,87 +219,105 @@ fn answer_quantizer(coef: i64) -> u32 {
 }
 
 // The coefficients' limit, and one past it.
-fn show_limit() {
+fn show_limit<O: Write>(output: &mut O) {
     show_number(
+        output,
         b"2D driver, 2147483648: answer ",
         answer_driver(2147483648) as u64,
     );
     show_number(
+        output,
         b"2D driver, -2147483648: answer ",
         answer_driver(-2147483648) as u64,
     );
     show_number(
+        output,
         b"2D driver, 2147483649: answer ",
         answer_driver(2147483649) as u64,
     );
     show_number(
+        output,
         b"2D driver, -2147483649: answer ",
         answer_driver(-2147483649) as u64,
     );
     show_number(
+        output,
         b"quantizer, 2147483648: answer ",
         answer_quantizer(2147483648) as u64,
     );
     show_number(
+        output,
         b"quantizer, -2147483648: answer ",
         answer_quantizer(-2147483648) as u64,
     );
     show_number(
+        output,
         b"quantizer, 2147483649: answer ",
         answer_quantizer(2147483649) as u64,
     );
     show_number(
+        output,
         b"quantizer, -2147483649: answer ",
         answer_quantizer(-2147483649) as u64,
     );
 }
 
-fn show_answers() {
+fn show_answers<O: Write>(output: &mut O) {
     show_number(
+        output,
         b"4 by 4, AC quantizer 8159, token 16450: answer ",
         answer_4(16450, 8159, 8) as u64,
     );
     show_number(
+        output,
         b"4 by 4, AC quantizer 8160, token 16450: answer ",
         answer_4(16450, 8160, 8) as u64,
     );
     show_number(
+        output,
         b"4 by 4, AC quantizer 8159, token 16451: answer ",
         answer_4(16451, 8159, 8) as u64,
     );
     show_number(
+        output,
         b"32 by 32, AC quantizer 16318, token 16450: answer ",
         answer_32(16450, 16318, 8) as u64,
     );
     show_number(
+        output,
         b"32 by 32, AC quantizer 16319, token 16450: answer ",
         answer_32(16450, 16319, 8) as u64,
     );
     show_number(
+        output,
         b"depth 12, 4 by 4, AC quantizer 32767, token 65536: answer ",
         answer_4(65536, 32767, 12) as u64,
     );
     show_number(
+        output,
         b"depth 12, 4 by 4, AC quantizer 32767, token 65539: answer ",
         answer_4(65539, 32767, 12) as u64,
     );
     show_number(
+        output,
         b"depth 12, 32 by 32, AC quantizer 16384, token 262144: answer ",
         answer_32(262144, 16384, 12) as u64,
     );
     show_number(
+        output,
         b"depth 12, 32 by 32, AC quantizer 16384, token 262145: answer ",
         answer_32(262145, 16384, 12) as u64,
     );
 }
 
-fn main() {
-    show_number(b"brev(3, 6): ", primitives::brev(3, 6) as u64);
-    show_coefficients();
-    show_codeable();
-    show_answers();
-    show_limit();
-    show_plane(4, 3);
-    show_padded(4, 3);
-    show_plane(6, 3);
+fn main(rt: HostRuntime) {
+    let mut output = rt.stdout();
+    show_number(&mut output, b"brev(3, 6): ", primitives::brev(3, 6) as u64);
+    show_coefficients(&mut output);
+    show_codeable(&mut output);
+    show_answers(&mut output);
+    show_limit(&mut output);
+    show_plane(&mut output, 4, 3);
+    show_padded(&mut output, 4, 3);
+    show_plane(&mut output, 6, 3);
 }

@@ -1,10 +1,10 @@
-// Standard input, line by line through a buffer. What waits in it stands from `from` to `end`.
+// A reader, which is standard input, line by line through a buffer. What waits in it stands from `from` to `end`.
 ghost use Rattle.std.specs.Prelude.{◌+◌, ◌≤◌, length};
 
 use crate::kinds::verdict;
 use crate::tally;
 use crate::verdict::Verdict;
-use libc::STDIN_FILENO;
+use std::io::Read;
 
 // The place of the next line's end; `end` where it is not there yet.
 fn line_end(buf: &[u8], from: usize, end: usize) -> usize
@@ -36,11 +36,11 @@ fn to_front(buf: &mut [u8], from: usize, end: usize) -> usize
 }
 
 // Reads as much as there is room for behind `from`; the end of what is there then.
-fn read_behind(buf: &mut [u8], from: usize) -> usize
+fn read_behind<I: Read>(input: &mut I, buf: &mut [u8], from: usize) -> usize
     requires { from ≤ length buf.old }
     ensures { (from ≤ result) × (result ≤ length buf.new) }
 {
-    let n = io::read_full(STDIN_FILENO, &mut buf[from..]);
+    let n = streams::read_full(input, &mut buf[from..]);
     from + n
 }
 
@@ -67,7 +67,12 @@ fn one_line(line: &[u8], number: u64, numbers: &mut [i64], counts: &mut [u64; 25
 }
 
 // All lines; false where one is longer than the buffer.
-pub fn each_line(buf: &mut [u8], numbers: &mut [i64], counts: &mut [u64; 256]) -> bool {
+pub fn each_line<I: Read>(
+    input: &mut I,
+    buf: &mut [u8],
+    numbers: &mut [i64],
+    counts: &mut [u64; 256],
+) -> bool {
     let mut from = 0;
     let mut end = 0;
     let mut number: u64 = 0;
@@ -86,7 +91,7 @@ pub fn each_line(buf: &mut [u8], numbers: &mut [i64], counts: &mut [u64; 256]) -
                 return false;
             }
             from = 0;
-            end = read_behind(buf, kept);
+            end = read_behind(input, buf, kept);
             if end == kept {
                 // the last line may have no end
                 number += 1;

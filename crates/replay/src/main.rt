@@ -19,13 +19,14 @@ fn room() -> [i64; 65536]
     [0; 65536]
 }
 
-fn main() {
+fn main(rt: HostRuntime) {
+    let mut output = rt.stdout();
     let mut counts = tally::none();
     let mut numbers = room();
-    let mut buffer = io::large_buffer();
-    let all = feed::each_line(&mut buffer, &mut numbers, &mut counts);
-    tally::print(&counts);
+    let mut buffer = streams::large_buffer();
+    let all = feed::each_line(&mut rt.stdin(), &mut buffer, &mut numbers, &mut counts);
+    tally::print(&mut output, &counts);
     if !all {
-        io::write_all(libc::STDOUT_FILENO, b"a line is too long\n");
+        streams::write_all(&mut output, b"a line is too long\n");
     }
 }

@@ -2,7 +2,7 @@
 ghost use Rattle.std.specs.Prelude.{◌<◌};
 
 use crate::verdict::Verdict;
-use libc::STDOUT_FILENO;
+use std::io::Write;
 
 const SAME: usize = 0;
 
@@ -42,31 +42,38 @@ pub fn add(counts: &mut [u64; 256], kind: usize, v: Verdict, number: u64)
     }
 }
 
-fn print_kind(kind: usize, same: u64, differ: u64, skipped: u64, first: u64) {
-    io::write_all(STDOUT_FILENO, b"kind ");
-    io::print_decimal(STDOUT_FILENO, kind as u64);
-    io::write_all(STDOUT_FILENO, b" same ");
-    io::print_decimal(STDOUT_FILENO, same);
-    io::write_all(STDOUT_FILENO, b" differ ");
-    io::print_decimal(STDOUT_FILENO, differ);
-    io::write_all(STDOUT_FILENO, b" skipped ");
-    io::print_decimal(STDOUT_FILENO, skipped);
+fn print_kind<O: Write>(
+    output: &mut O,
+    kind: usize,
+    same: u64,
+    differ: u64,
+    skipped: u64,
+    first: u64,
+) {
+    streams::write_all(output, b"kind ");
+    streams::print_decimal(output, kind as u64);
+    streams::write_all(output, b" same ");
+    streams::print_decimal(output, same);
+    streams::write_all(output, b" differ ");
+    streams::print_decimal(output, differ);
+    streams::write_all(output, b" skipped ");
+    streams::print_decimal(output, skipped);
     if 0 < differ {
-        io::write_all(STDOUT_FILENO, b" first ");
-        io::print_decimal(STDOUT_FILENO, first);
+        streams::write_all(output, b" first ");
+        streams::print_decimal(output, first);
     }
-    io::write_all(STDOUT_FILENO, b"\n");
+    streams::write_all(output, b"\n");
 }
 
 // A line for each kind that was met.
-pub fn print(counts: &[u64; 256]) {
+pub fn print<O: Write>(output: &mut O, counts: &[u64; 256]) {
     for kind in 0..64usize {
         let same = counts[kind * 4 + SAME];
         let differ = counts[kind * 4 + DIFFER];
         let skipped = counts[kind * 4 + SKIPPED];
         let first = counts[kind * 4 + FIRST];
         if same != 0 || differ != 0 || skipped != 0 {
-            print_kind(kind, same, differ, skipped, first);
+            print_kind(output, kind, same, differ, skipped, first);
         }
     }
 }

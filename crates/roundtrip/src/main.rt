@@ -3,10 +3,11 @@
 #![tactic(auto)]
 
 use clip_dump::Dumped;
-use libc::STDOUT_FILENO;
+use std::io::Write;
+use std::rt::{Env, Files};
 
-fn put(words: &[u8]) {
-    io::write_all(STDOUT_FILENO, words);
+fn put<O: Write>(output: &mut O, words: &[u8]) {
+    streams::write_all(output, words);
 }
 
 // Whether two files have the same bytes.
@@ -25,35 +26,35 @@ fn same(a: &[u8], b: &[u8]) -> bool {
 }
 
 // The file made of the text, beside the file that the text was made of.
-fn back(file: &[u8], text: &[u8]) {
-    let mut out = io::large_buffer();
-    let mut words = io::buffer();
+fn back<O: Write>(output: &mut O, file: &[u8], text: &[u8]) {
+    let mut out = streams::large_buffer();
+    let mut words = streams::buffer();
     let made = clip_make::make(text, &mut out, &mut words);
     if !made.good {
-        put(b"text refused: ");
-        put(clip_io::front(&words, made.said));
+        put(output, b"text refused: ");
+        put(output, clip_io::front(&words, made.said));
         return;
     }
     if same(file, clip_io::front(&out, made.length)) {
-        put(b"the same file\n");
+        put(output, b"the same file\n");
     } else {
-        put(b"another file\n");
+        put(output, b"another file\n");
     }
 }
 
 // What was dumped, and back.
-fn back_from(good: bool, file: &[u8], text: &[u8]) {
+fn back_from<O: Write>(output: &mut O, good: bool, file: &[u8], text: &[u8]) {
     if !good {
-        put(text);
+        put(output, text);
         return;
     }
-    io::print_decimal(STDOUT_FILENO, text.len() as u64);
-    put(b" bytes of text, ");
-    back(file, text);
+    streams::print_decimal(output, text.len() as u64);
+    put(output, b" bytes of text, ");
+    back(output, file, text);
 }
 
-fn back_front(good: bool, file: &[u8], text: &[u8; 1048576], n: usize) {
-    back_from(good, file, clip_io::front(text, n));
+fn back_front<O: Write>(output: &mut O, good: bool, file: &[u8], text: &[u8; 1048576], n: usize) {
+    back_from(output, good, file, clip_io::front(text, n));
 }
 
 fn dump(file: &[u8], text: &mut [u8; 1048576]) -> Dumped {
@@ -61,37 +62,45 @@ fn dump(file: &[u8], text: &mut [u8; 1048576]) -> Dumped {
 }
 
 // A file to a text and back.
-fn round(file: &[u8]) {
+fn round<O: Write>(output: &mut O, file: &[u8]) {
     let mut text = clip_io::text_room();
     let dumped = dump(file, &mut text);
-    back_front(dumped.good, file, &text, dumped.length);
+    back_front(output, dumped.good, file, &text, dumped.length);
 }
 
-fn run_file(path: &[u8]) {
-    let fd = os::open_read(path);
-    if fd < 0 {
-        os::fail(path);
-        return;
+fn run_file<R: Files, O: Write, E: Write>(rt: &R, output: &mut O, errors: &mut E, path: &[u8]) {
+    match streams::open_read(rt, path) {
+        Ok(mut from) => {
+            let mut file = streams::large_buffer();
+            let n = streams::read_full(&mut from, &mut file);
+            put(output, path);
+            put(output, b": ");
+            round(output, &file[..n]);
+        }
+        Err(error) => {
+            streams::fail(errors, path, error);
+        }
     }
-    let mut file = io::large_buffer();
-    let n = io::read_full(fd, &mut file);
-    put(path);
-    put(b": ");
-    round(&file[..n]);
-    libc::close(fd);
 }
 
-fn run_argument(i: usize) {
-    let mut path = io::buffer();
-    let n = os::arg(i, &mut path);
-    run_file(&path[..n]);
+fn run_argument<R: Env + Files, O: Write, E: Write>(
+    rt: &R,
+    output: &mut O,
+    errors: &mut E,
+    i: usize,
+) {
+    let mut path = streams::buffer();
+    let n = streams::arg(rt, i, &mut path);
+    run_file(rt, output, errors, &path[..n]);
 }
 
-fn main() {
-    let count = os::arg_count();
+fn main(rt: HostRuntime) {
+    let mut output = rt.stdout();
+    let mut errors = rt.stderr();
+    let count = streams::arg_count(&rt);
     let mut i = 1;
     while i < count {
-        run_argument(i);
+        run_argument(&rt, &mut output, &mut errors, i);
         i += 1;
     }
 }

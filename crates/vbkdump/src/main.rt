@@ -2,7 +2,6 @@
 #![tactic(auto)]
 
 use clip_dump::Dumped;
-use libc::STDIN_FILENO;
 
 // Bytes that fill the room for a file.
 const FULL: usize = 65536;
@@ -12,16 +11,24 @@ fn dump(file: &[u8], text: &mut [u8; 1048576]) -> Dumped {
 }
 
 // A file of 65,536 bytes or more fills its room, and is too large whatever follows.
-fn main() {
-    let mut file = io::large_buffer();
+fn main(rt: HostRuntime) {
+    let mut input = rt.stdin();
+    let mut errors = rt.stderr();
+    let mut file = streams::large_buffer();
     let mut text = clip_io::text_room();
-    let n = io::read_full(STDIN_FILENO, &mut file);
+    let n = streams::read_full(&mut input, &mut file);
     if n < FULL {
-        if !clip_io::at_end(STDIN_FILENO) {
-            clip_io::tell(b"the file could not be read to its end\n");
+        if !clip_io::at_end(&mut input) {
+            clip_io::tell(&mut errors, b"the file could not be read to its end\n");
             return;
         }
     }
     let dumped = dump(&file[..n], &mut text);
-    clip_io::hand_text(dumped.good, &text, dumped.length);
+    clip_io::hand_text(
+        &mut rt.stdout(),
+        &mut errors,
+        dumped.good,
+        &text,
+        dumped.length,
+    );
 }

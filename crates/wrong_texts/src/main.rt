@@ -4,10 +4,10 @@
 
 ghost use Rattle.std.specs.Prelude.{◌≤◌, ◌<◌, length};
 
-use libc::{STDIN_FILENO, STDOUT_FILENO};
+use std::io::Write;
 
-fn put(words: &[u8]) {
-    io::write_all(STDOUT_FILENO, words);
+fn put<O: Write>(output: &mut O, words: &[u8]) {
+    streams::write_all(output, words);
 }
 
 // The place of the next line `====`; the end where there is none.
@@ -26,43 +26,43 @@ fn next_mark(all: &[u8], from: usize) -> usize
 }
 
 // A byte as a number, after a blank.
-fn put_byte(b: u8) {
-    put(b" ");
-    io::print_decimal(STDOUT_FILENO, b as u64);
+fn put_byte<O: Write>(output: &mut O, b: u8) {
+    put(output, b" ");
+    streams::print_decimal(output, b as u64);
 }
 
-fn put_bytes(bytes: &[u8]) {
+fn put_bytes<O: Write>(output: &mut O, bytes: &[u8]) {
     let mut i = 0;
     while i < bytes.len() {
-        put_byte(bytes[i]);
+        put_byte(output, bytes[i]);
         i += 1;
     }
 }
 
 // How long a file is, and its first bytes: a header, two samples, a record before its tokens.
-fn put_file(file: &[u8]) {
-    io::print_decimal(STDOUT_FILENO, file.len() as u64);
-    put(b" bytes:");
-    put_bytes(clip_io::front(file, 25));
-    put(b"\n");
+fn put_file<O: Write>(output: &mut O, file: &[u8]) {
+    streams::print_decimal(output, file.len() as u64);
+    put(output, b" bytes:");
+    put_bytes(output, clip_io::front(file, 25));
+    put(output, b"\n");
 }
 
-fn tell(text: &[u8]) {
-    let mut out = io::large_buffer();
-    let mut words = io::buffer();
+fn tell<O: Write>(output: &mut O, text: &[u8]) {
+    let mut out = streams::large_buffer();
+    let mut words = streams::buffer();
     let made = clip_make::make(text, &mut out, &mut words);
-    put(clip_io::front(&words, made.said));
+    put(output, clip_io::front(&words, made.said));
     if made.good {
-        put_file(clip_io::front(&out, made.length));
+        put_file(output, clip_io::front(&out, made.length));
     }
 }
 
 // The texts one after the other; a mark has five bytes, its line's end among them.
-fn tell_all(all: &[u8]) {
+fn tell_all<O: Write>(output: &mut O, all: &[u8]) {
     let mut at = 0;
     while at < all.len() {
         let end = next_mark(all, at);
-        tell(&all[at..end]);
+        tell(output, &all[at..end]);
         if all.len() - end < 5 {
             return;
         }
@@ -70,12 +70,12 @@ fn tell_all(all: &[u8]) {
     }
 }
 
-fn tell_front(room: &[u8; 1048576], n: usize) {
-    tell_all(clip_io::front(room, n));
+fn tell_front<O: Write>(output: &mut O, room: &[u8; 1048576], n: usize) {
+    tell_all(output, clip_io::front(room, n));
 }
 
-fn main() {
+fn main(rt: HostRuntime) {
     let mut room = clip_io::text_room();
-    let n = clip_io::read_text(STDIN_FILENO, &mut room);
-    tell_front(&room, n);
+    let n = clip_io::read_text(&mut rt.stdin(), &mut room);
+    tell_front(&mut rt.stdout(), &room, n);
 }

@@ -1,9 +1,6 @@
-use Prim.Native.Nat.{◌-◌}
-use borrow.Author.Rules.{rules}
+-- The arguments that are left get fewer.
+use Rattle.std.proofs.Common.{◌-◌}
 use Rattle.classes.proofs.table.Given as goal
 
-abbrev pub invariant-loop-i : goal.invariant-loop-i
-invariant-loop-i l = Unit {0}
-
 abbrev pub decreases-loop-i : goal.decreases-loop-i
-decreases-loop-i l = l.count - l.i
+decreases-loop-i g l = l.count - l.i

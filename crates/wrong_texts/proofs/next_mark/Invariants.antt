@@ -1,6 +1,4 @@
-use Prim.Native.Nat.{◌-◌, ◌≤◌}
-use borrow.Author.Rules.{rules}
-use lib.ListN.{length}
+use Rattle.std.proofs.Common.{◌-◌, ◌≤◌, length}
 use Rattle.wrong_texts.proofs.next_mark.Given as goal
 
 abbrev pub invariant-loop-i : goal.invariant-loop-i

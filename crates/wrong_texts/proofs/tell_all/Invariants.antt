@@ -1,10 +1,5 @@
-use Prim.Native.Nat.{◌-◌}
-use borrow.Author.Rules.{rules}
-use lib.ListN.{length}
+use Rattle.std.proofs.Common.{◌-◌, length}
 use Rattle.wrong_texts.proofs.tell_all.Given as goal
 
-abbrev pub invariant-loop-at : goal.invariant-loop-at
-invariant-loop-at l = Unit {0}
-
 abbrev pub decreases-loop-at : goal.decreases-loop-at
-decreases-loop-at l = length l.all - l.at
+decreases-loop-at g l = length l.all - l.at
