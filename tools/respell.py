@@ -17,6 +17,8 @@ BOUND = re.compile(rf"[({{]((?:{NAME} )+): ")
 RECORD = re.compile(r"^ *(?:pub )?record [^\n]* where\n((?:(?: [^\n]*)?\n)+)", re.M)
 USE = re.compile(r"^(?:ghost )?use ([^\s;{]+)\.\{([^}]*)\};?$", re.M)
 TOKEN = re.compile(r"\.?" + NAME)
+# a name behind a module's short name, as R.badPlane
+BEHIND = re.compile(rf"\b([A-Z][A-Za-z]*)\.({NAME})")
 QUIET = re.compile(r"--[^\n]*|\"[^\"\n]*\"")
 KEPT = {"→"}
 
@@ -117,6 +119,7 @@ def main(argv):
             new = "".join(out)
         else:
             new = rust(t, turn)
+        new = BEHIND.sub(lambda m: f"{m[1]}.{declared.get(m[2], m[2])}", new)
         for a, b in sorted(clash):
             print(f"meet: {p}: {a} and {b}")
         if new != t:

@@ -1,6 +1,5 @@
 -- Laws of the basis: what the table has at each place, and that every smaller basis is read out of it.
 use mathlib.Core.Path.{◌≡◌, sym, ap, ◌∙◌}
-use mathlib.Core.Bool.{cond}
 use Prim.Native.Nat.{ℕ, zero, suc, ◌+◌, ◌-◌, ◌*◌, ◌/◌, ◌%◌, ◌^◌, ◌≤◌, ◌<◌}
 use native.Mathlib.Nat as NatL
 use native.Mathlib.Omega.{arith}
@@ -12,7 +11,6 @@ use lib.Pow.{pow_mono, pow_pos, pow-add}
 use Rattle.whole.specs.Within.{Within}
 use Rattle.whole.proofs.Within.{within_cond, within_lit}
 use Rattle.whole.proofs.Lists.{get_d_tabulate}
-use Rattle.primitives.specs.Cosine.{Cos64}
 use Rattle.primitives.proofs.Cosine.{cos_within}
 use Rattle.basis.specs.Basis.{basis_at, table}
 

@@ -1,5 +1,5 @@
 -- The two-dimensional inverse transform. Specification §8.7.2: which transform each pass takes, the rounding, the two passes.
-use Rattle.std.specs.Prelude.{Bool, true, false, cond, ◌||◌, List, ℕ, min, ◌+◌, ◌^◌, eqb, ℤ}
+use Rattle.std.specs.Prelude.{Bool, true, false, cond, ◌||◌, List, ℕ, min, ◌+◌, eqb, ℤ}
 use Rattle.whole.specs.Round.{Round2}
 use Rattle.answers.specs.Sizes.{side}
 use Rattle.dct.specs.Dct.{dct}

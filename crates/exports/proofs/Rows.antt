@@ -1,18 +1,17 @@
 -- Laws of the calls about rows as C sees them: a summary's rows are below 32, and what each call leaves.
-use mathlib.Core.Path.{◌≡◌, sym, ap, subst, ◌∙◌}
+use mathlib.Core.Path.{◌≡◌, sym, ap, ◌∙◌}
 use mathlib.Core.Bool.{Bool, true, false}
 use mathlib.Core.List.{List, [], ◌∷◌, ◌++◌}
 use Prim.Native.Nat.{ℕ, zero, suc, ◌≤◌, ◌<◌}
 use native.Mathlib.Omega.{arith}
 use borrow.Author.Tests.{eq-eqb, ne_eqb}
-use lib.ListN.{length}
 use Rattle.whole.specs.Steps.{each, when}
 use Rattle.answers.specs.declared.Answer.{Answer}
 use Rattle.answers.specs.Answers.{number}
 use Rattle.summary.specs.declared.RowSummary.TheVariants.{Rows, Refused}
 use Rattle.summary.specs.Summary.{those, is_set, set_rows, first_of, last_of, summarized}
 use Rattle.idct.specs.Driver as D
-use Rattle.idct.specs.Rows.{Rowed, transformed}
+use Rattle.idct.specs.Rows.{Rowed}
 use Rattle.exports.specs.Told.{Told}
 use Rattle.exports.specs.Rows.{Asked, summary_number, summary_or, asked_answer, asked_after, Beside, Counting, counting_answer, counting_after}
 use Rattle.rows_told.specs.Inner.{place_of}

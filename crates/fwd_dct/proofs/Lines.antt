@@ -1,19 +1,19 @@
 -- Laws of one line: a basis is the same from both ends, up to its sign; so a coefficient is a sum of half as many products.
-use mathlib.Core.Path.{◌≡◌, refl, sym, ap, ap₂, ◌∙◌}
+use mathlib.Core.Path.{◌≡◌, sym, ap, ap₂, ◌∙◌}
 use mathlib.Core.Bool.{Bool, true, false, cond}
 use mathlib.Core.List.{List}
-use Prim.Native.Nat.{ℕ, zero, suc, ◌+◌, ◌-◌, ◌*◌, ◌/◌, ◌%◌, ◌^◌, ◌≤◌, ◌<◌}
+use Prim.Native.Nat.{ℕ, ◌+◌, ◌-◌, ◌*◌, ◌/◌, ◌%◌, ◌^◌, ◌≤◌, ◌<◌}
 use native.Mathlib.Nat as NatL
 use native.Mathlib.Omega.{arith}
 use borrow.Author.Tests.{eq-eqb, ne_eqb}
 use lib.Dec.{T, eqb, eqb→eq}
-use lib.IntN.{ℤ, pos, negsuc, neg_ℤ, ◌+ℤ◌, ◌-ℤ◌, ◌*ℤ◌}
+use lib.IntN.{ℤ, pos, negsuc, neg_ℤ, ◌+ℤ◌, ◌*ℤ◌}
 use lib.ListN.{length, get_or}
 use Rattle.whole.specs.Lists.{fill}
 use Rattle.whole.specs.Within.{Within}
 use Rattle.whole.proofs.Tests.{all_below, below}
 use Rattle.whole.proofs.Within.{within_mul, within_le}
-use Rattle.whole.proofs.Ring.{at, ◌⊕◌, ◌⊖◌, ◌⊗◌, neg, ring}
+use Rattle.whole.proofs.Ring.{at, ◌⊕◌, ◌⊗◌, neg, ring}
 use Rattle.answers.specs.Sizes.{side}
 use Rattle.primitives.specs.Cosine.{cos_at, Cos64}
 use Rattle.basis.specs.Basis.{basis_at, table}

@@ -1,6 +1,6 @@
 -- Laws of the quantizing calls: what each answer leaves, what answer 0 says of the input, and that the promise fixes the result.
-use mathlib.Core.Path.{◌≡◌, refl, sym, ◌∙◌}
-use mathlib.Core.Bool.{Bool, true, false, ◌||◌, cond}
+use mathlib.Core.Path.{◌≡◌, refl, ◌∙◌}
+use mathlib.Core.Bool.{Bool, true, false, ◌||◌}
 use mathlib.Core.List.{List}
 use Prim.Native.Nat.{ℕ, ◌≤◌, ◌<◌}
 use native.Mathlib.Omega.{arith}
@@ -12,7 +12,6 @@ use Rattle.whole.specs.Lists.{fill}
 use Rattle.whole.proofs.Lists.{fill_rest, fill_all, fill_done}
 use Rattle.answers.specs.Bad.{bad_depth, retired, bad_size, bad_quantizer, any_beyond}
 use Rattle.answers.specs.Limits.{COEF_LIMIT, LIST_LIMIT}
-use Rattle.answers.specs.declared.Answer.{Answer}
 use Rattle.answers.proofs.Numbers.{pass, rest}
 use Rattle.answers.proofs.Passed.{none_beyond}
 use Rattle.quant.specs.Places.{quantizer_at}

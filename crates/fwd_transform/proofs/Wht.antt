@@ -19,7 +19,6 @@ use Rattle.whole.proofs.Lists.{length_tabulate, get_d_tabulate}
 use Rattle.whole.proofs.Parts.{eq_parts, mul_P, mul_N, quot_P, quot_N}
 use Rattle.answers.specs.Bad.{bad_depth, any_beyond}
 use Rattle.answers.specs.Limits.{WHT_LIMIT, codeable}
-use Rattle.answers.specs.declared.Answer.{Answer}
 use Rattle.answers.proofs.Numbers.{pass, rest}
 use Rattle.answers.proofs.Passed.{by_depth, none_within}
 use Rattle.quant.specs.Places.{quantizer_at, dequant_all}

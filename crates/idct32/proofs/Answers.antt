@@ -1,6 +1,6 @@
 -- The engine's table: the driver's refusals as they are, then 18 or the residual.
-use mathlib.Core.Path.{◌≡◌, refl, sym, ap, subst, ◌∙◌}
-use mathlib.Core.Bool.{Bool, true, false, cond, not}
+use mathlib.Core.Path.{◌≡◌, refl, sym, ◌∙◌}
+use mathlib.Core.Bool.{true, false}
 use mathlib.Core.List.{List}
 use Prim.Native.Nat.{ℕ, ◌≤◌, ◌<◌}
 use borrow.Author.Tests.{eq-eqb, ne_eqb}
@@ -8,7 +8,6 @@ use lib.Dec.{eqb}
 use lib.IntN.{ℤ, pos}
 use lib.ListN.{length, get_or, replicate}
 use Rattle.whole.specs.Lists.{fill}
-use Rattle.whole.specs.Round.{Round2}
 use Rattle.answers.specs.declared.Answer.{Answer}
 use Rattle.answers.specs.declared.Answer.TheVariants.{Done, Narrow}
 use Rattle.answers.specs.Answers.{number}
@@ -18,13 +17,12 @@ use Rattle.answers.specs.Sizes.{side, area}
 use Rattle.narrow.specs.Kept.{shorts}
 use Rattle.blocks.specs.Block.{rows, columns}
 use Rattle.blocks.specs.Inner.{Possible}
-use Rattle.blocks.specs.Inverse.{apply, row_pass, column_pass, bits, rounding, inverse2d}
+use Rattle.blocks.specs.Inverse.{apply, row_pass, column_pass, rounding, inverse2d}
 use Rattle.idct.specs.Driver as D
 use Rattle.idct.specs.Driver.{Input}
 use Rattle.idct.specs.Inner.{shape_of}
 use Rattle.idct.proofs.Answers.{possible, driven, under}
 use Rattle.idct32.specs.Engine.{within16, width_answer, answer_of32, block_after32, Driven32}
-use native.Mathlib.Omega.{arith}
 use Rattle.idct32.proofs.Work.{area_most, short_under, taken, within_are, residual}
 
 -- a refusal of the driver is the engine's

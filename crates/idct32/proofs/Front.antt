@@ -1,5 +1,5 @@
 -- A block at the front of a longer list, and the same block alone: rows and columns of the two agree.
-use mathlib.Core.Path.{◌≡◌, sym, ap, subst, ◌∙◌}
+use mathlib.Core.Path.{◌≡◌, sym, ap, ◌∙◌}
 use mathlib.Core.List.{List}
 use Prim.Native.Nat.{ℕ, ◌+◌, ◌*◌, ◌≤◌, ◌<◌}
 use native.Mathlib.Nat.{le_refl, add_comm}
@@ -9,7 +9,7 @@ use lib.ListN.{length, get_or, get_or-eq_default}
 use Rattle.whole.specs.Lists.{tabulate, fill}
 use Rattle.whole.proofs.Lists.{length_tabulate, get_d_tabulate}
 use Rattle.blocks.specs.Block.{row, column, rows, columns}
-use Rattle.blocks.proofs.Places.{in_row, in_column}
+use Rattle.blocks.proofs.Places.{in_row}
 use Rattle.blocks.proofs.Lines.{line_same, fill_length, fill_at, fill_past}
 use Rattle.blocks.proofs.Blocks.{block_ext, rows_length, rows_at, rows_past, columns_length, columns_at, columns_past}
 

@@ -1,8 +1,8 @@
 -- The work against the block: it begins with the block's numbers, so the condition and the residual are the block's own.
-use mathlib.Core.Path.{◌≡◌, refl, sym, ap, ap₂, ◌∙◌}
-use mathlib.Core.Bool.{Bool, true, false, ◌&&◌}
+use mathlib.Core.Path.{◌≡◌, sym, ap, ap₂, ◌∙◌}
+use mathlib.Core.Bool.{Bool, true, false}
 use mathlib.Core.List.{List, [], ◌∷◌}
-use Prim.Native.Nat.{ℕ, ◌+◌, ◌*◌, ◌^◌, ◌≤◌, ◌<◌}
+use Prim.Native.Nat.{ℕ, ◌+◌, ◌*◌, ◌≤◌, ◌<◌}
 use native.Mathlib.Nat.{mul-one, le_refl, mul-le-mul}
 use native.Mathlib.Omega.{arith}
 use lib.Arith.{digits_lt}
@@ -27,8 +27,8 @@ use Rattle.blocks.proofs.Lines.{fill_length, fill_past, fill_at, line_same, line
 use Rattle.blocks.proofs.Inverse.{side_most}
 use Rattle.blocks.proofs.Blocks.{block_ext, rows_length, rows_at, rows_past, columns_length, columns_at, columns_past}
 use Rattle.weights.specs.Line.{kept_line}
-use Rattle.idct32.specs.Engine.{every, kept_rows, kept_columns, within16}
-use Rattle.idct32.proofs.Scan.{and_left, and_no, fails, every_at, every_same, shorts_all, shorts_at}
+use Rattle.idct32.specs.Engine.{kept_rows, kept_columns, within16}
+use Rattle.idct32.proofs.Scan.{and_left, fails, every_at, every_same, shorts_all, shorts_at}
 
 -- ---- a line of numbers of 16 bits
 pub line_short : (start step n0 : ℕ) (s : List ℤ) → n0 ≤ 32 → ((k : ℕ) → k < n0 → short (get_or s (start + k * step) (pos 0)) ≡ true) → shorts n0 (line start step n0 s) ≡ true

@@ -11,7 +11,7 @@ use Rattle.primitives.proofs.Cosine.{cos_within, sin_within}
 use Rattle.steps.specs.Step.{Bf, step}
 use Rattle.steps.specs.Step2.{Arrays, SB, step2}
 use Rattle.adst.specs.Inner.{arrays}
-use Rattle.narrow.specs.Inner.{short_pair, fits, spin_x, spin_y, spin_fits, spin, Turns, Fine16}
+use Rattle.narrow.specs.Inner.{fits, spin_x, spin_y, spin_fits, spin, Turns, Fine16}
 use Rattle.narrow.proofs.Tried.{Told}
 
 -- cos and sin are those of an angle

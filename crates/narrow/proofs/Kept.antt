@@ -9,8 +9,7 @@ use lib.Dec.{T, leb, ltb, eqb, leb→le, ltb→lt, eqb→eq}
 use lib.IntN.{ℤ, pos, neg_ℤ, ◌+ℤ◌, ◌-ℤ◌}
 use lib.ListN.{length, get_or, set, length-set}
 use lib.Seq.{get_or-set_same, get_or-set_other}
-use borrow.Author.Tests.{leb-true, eqb-false, eq-eqb}
-use Rattle.whole.specs.Parts.{P, N}
+use borrow.Author.Tests.{eq-eqb}
 use Rattle.whole.specs.Lists.{fill, move}
 use Rattle.whole.specs.Steps.{run}
 use Rattle.whole.specs.Inner.{Ok, none, next}

@@ -1,18 +1,17 @@
 -- The condition over T and S: S does not count, but what SB puts there is bounded, so that SH's sums are of 32 bits.
-use mathlib.Core.Path.{◌≡◌, refl, sym, ap, subst, ◌∙◌}
+use mathlib.Core.Path.{◌≡◌, sym, ◌∙◌}
 use mathlib.Core.Bool.{Bool, true, false, not}
 use mathlib.Core.List.{List, [], ◌∷◌}
 use Prim.Native.Nat.{ℕ, zero, suc, ◌≤◌, ◌<◌}
 use native.Mathlib.Omega.{arith}
-use lib.Dec.{T, leb, ltb, eqb, ltb→lt}
+use lib.Dec.{T, ltb, eqb}
 use lib.IntN.{ℤ, pos, ◌+ℤ◌, ◌-ℤ◌}
-use lib.ListN.{length, get_or, set, replicate, length-set}
+use lib.ListN.{length, get_or, set, length-set}
 use Rattle.whole.specs.Round.{Round2}
 use Rattle.whole.specs.Within.{Within}
 use Rattle.whole.specs.Inner.{AllWithin, Ok, none, next}
 use Rattle.whole.proofs.Tests.{both, b₁, b₂}
 use Rattle.primitives.specs.Rotations.{set_pair, apply_sb, apply_sh, turn_x, turn_y}
-use Rattle.steps.specs.Step.{Step, step}
 use Rattle.steps.specs.Step2.{Arrays, Step2, on, SB, SH, step2}
 use Rattle.steps.proofs.Places.{every, step_stays}
 use Rattle.narrow.specs.Kept.{shorts, kept2}

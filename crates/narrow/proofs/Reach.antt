@@ -1,12 +1,11 @@
 -- How far a rotation of two numbers of 16 bits reaches: |cos64| + |sin64| is at most 23170 at every angle, by one test over the whole turn.
 use mathlib.Core.Path.{◌≡◌, refl, ap}
 use mathlib.Core.Bool.{Bool}
-use Prim.Native.Nat.{ℕ, ◌+◌, ◌*◌, ◌-◌, ◌/◌, ◌%◌, ◌≤◌, ◌<◌}
+use Prim.Native.Nat.{ℕ, ◌+◌, ◌-◌, ◌/◌, ◌%◌, ◌≤◌}
 use native.Mathlib.Nat as NatL
 use native.Mathlib.Omega.{arith}
 use lib.Dec.{T, leb, leb→le}
 use lib.IntN.{ℤ, pos, negsuc, nat_abs, ◌-ℤ◌}
-use Rattle.whole.specs.Parts.{P, N}
 use Rattle.whole.specs.Within.{Within}
 use Rattle.whole.proofs.Parts.{sum_parts}
 use Rattle.whole.proofs.Tests.{all_below, below}
@@ -14,7 +13,7 @@ use Rattle.whole.proofs.Within.{within_le}
 use Rattle.primitives.specs.Cosine.{modulo, cos_at, Cos64, Sin64}
 use Rattle.primitives.specs.Rotations.{turn_x, turn_y}
 use Rattle.primitives.proofs.Cosine.{modulo_lt, modulo_same, cos_is}
-use Rattle.primitives.proofs.Growth.{grown_x, grown_y, within_turn_x, within_turn_y}
+use Rattle.primitives.proofs.Growth.{within_turn_x, within_turn_y}
 use Rattle.narrow.specs.Inner.{reach}
 
 -- the sine, read off the cosine's own remainder

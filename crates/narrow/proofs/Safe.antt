@@ -9,7 +9,7 @@ use lib.IntN.{ℤ, pos}
 use lib.ListN.{length, get_or, replicate}
 use borrow.Author.Tests.{not-false}
 use Rattle.whole.specs.Inner.{AllWithin}
-use Rattle.whole.proofs.Tests.{both, b₁, b₂}
+use Rattle.whole.proofs.Tests.{b₁, b₂}
 use Rattle.whole.proofs.Within.{table_within}
 use Rattle.steps.specs.Step.{Step, Move, A4, step}
 use Rattle.steps.specs.Step2.{Arrays, Step2, on, SB, step2}

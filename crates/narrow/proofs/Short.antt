@@ -1,17 +1,15 @@
 -- Numbers of 16 bits: the test, the range, the machine's width.
-use mathlib.Core.Path.{◌≡◌, refl, sym, subst, ◌∙◌}
+use mathlib.Core.Path.{◌≡◌, refl, sym, subst}
 use mathlib.Core.Bool.{Bool, true, false, ◌&&◌}
 use Prim.Native.Nat.{ℕ, ◌^◌, ◌≤◌, ◌<◌}
 use native.Mathlib.Omega.{arith}
-use lib.Dec.{leb, lit<}
+use lib.Dec.{leb}
 use lib.IntN.{ℤ}
-use mir.Syntax.{Width, w16, w32}
+use mir.Syntax.{Width, w16}
 use mir.Val.{SFits, hbits}
-use mir.Facts.{to_z-of_z}
 use borrow.Author.Tests.{leb-true, le-leb, lt-leb}
 use Rattle.whole.specs.Parts.{P, N}
 use Rattle.whole.specs.Within.{Within}
-use Rattle.whole.proofs.Parts.{apart}
 use Rattle.whole.proofs.Signed.{rd}
 use Rattle.whole.proofs.Within.{back, within_sfits, sfits_parts, sfits_P, sfits_N}
 use Rattle.narrow.specs.Kept.{short}

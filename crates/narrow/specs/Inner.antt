@@ -4,7 +4,7 @@ use Rattle.whole.specs.Round.{Round2}
 use Rattle.whole.specs.Within.{Within}
 use Rattle.primitives.specs.Rotations.{turn_x, turn_y, set_pair}
 use Rattle.steps.specs.Step.{Step, Bf, Hd, Neg, Move, A4, Wh, adst4, wht4, step}
-use Rattle.steps.specs.Step2.{Arrays, Step2, on, SB, SH, step2}
+use Rattle.steps.specs.Step2.{Arrays, Step2, on, SB, SH}
 use Rattle.narrow.specs.Kept.{short, shorts}
 
 -- both numbers that a step computes are of 16 bits

@@ -6,20 +6,19 @@ use Prim.Native.Nat.{ℕ, zero, suc, ◌+◌, ◌-◌, ◌*◌, ◌/◌, ◌^◌
 use native.Mathlib.Nat.{le_antisymm, mul-le-mul_right}
 use native.Mathlib.Omega.{arith}
 use lib.IntN.{ℤ, pos}
-use lib.ListN.{length, get_or, set}
+use lib.ListN.{length, get_or}
 use lib.Seq.{set-get_or}
 use Rattle.whole.specs.Inner.{times}
 use Rattle.whole.proofs.Loops.{times_none, times_more, times_keeps}
 use Rattle.answers.specs.Sizes.{side}
 use Rattle.steps.proofs.Shapes.{Zeros}
 use Rattle.dct.proofs.Dct.{two_to_five}
-use Rattle.blocks.specs.Block.{line, row, rows, columns}
+use Rattle.blocks.specs.Block.{row, rows, columns}
 use Rattle.blocks.specs.Inner.{set_line, change_line}
-use Rattle.blocks.specs.Inverse.{Pass, Dct, Adst, apply, lossy}
+use Rattle.blocks.specs.Inverse.{Pass, apply, lossy}
 use Rattle.blocks.proofs.Lines.{line_length, line_at, line_same, change_line_other}
 use Rattle.blocks.proofs.Blocks.{rows_loop, columns_loop}
 use Rattle.blocks.proofs.Passes.{Valid, pass_zeros}
-use Rattle.blocks.proofs.Inverse.{side_most}
 use Rattle.narrow.specs.Tile.{raster}
 use Rattle.narrow.proofs.Tile.{raster_length}
 use Rattle.weights.specs.Inner.{Keeps}

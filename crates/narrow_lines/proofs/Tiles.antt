@@ -11,7 +11,7 @@ use lib.ListN.{length, get_or, set, length-set}
 use Rattle.whole.specs.Inner.{times}
 use Rattle.blocks.specs.Inner.{set_line}
 use Rattle.blocks.proofs.Places.{rows_apart, columns_apart}
-use Rattle.narrow.specs.Tile.{place, raster}
+use Rattle.narrow.specs.Tile.{raster}
 use Rattle.narrow.proofs.Tile.{place_lt, raster_at, raster_set}
 use Rattle.narrow_lines.specs.Inner.{start, gap, spot, Whole, Holds}
 

@@ -2,7 +2,7 @@
 use mathlib.Core.Path.{◌≡◌, refl, sym, ap, ◌∙◌}
 use mathlib.Core.Bool.{Bool, true, false, ◌&&◌}
 use mathlib.Core.List.{List}
-use Prim.Native.Nat.{ℕ, min, ◌+◌, ◌-◌, ◌*◌, ◌/◌, ◌%◌, ◌<◌, ◌≤◌}
+use Prim.Native.Nat.{ℕ, ◌+◌, ◌-◌, ◌*◌, ◌<◌, ◌≤◌}
 use native.Mathlib.Decide.{dec_lt, ℕ_discrete}
 use native.Mathlib.Nat as NatL
 use native.Mathlib.Omega.{arith}
@@ -11,7 +11,7 @@ use lib.IntN.{ℤ, pos, ◌+ℤ◌}
 use lib.ListN.{length, get_or}
 use Rattle.whole.proofs.Lists.{length_tabulate, get_d_tabulate, tabulate_is, tabulate_same}
 use Rattle.plane.specs.declared.Plane.{Plane}
-use Rattle.plane.specs.Place.{place_of, row_of, column_of, area_of, cut, SamplesOf}
+use Rattle.plane.specs.Place.{place_of, row_of, column_of, cut, SamplesOf}
 use Rattle.plane.specs.Plane.{clip, inside, sample_after, plane_after}
 use Rattle.plane.specs.Inner.{row_after}
 use Rattle.plane.proofs.Row.{inside_yes, inside_low, inside_high, inside_is, row_in, row_out}

@@ -6,7 +6,7 @@ use native.Mathlib.Nat as NatL
 use native.Mathlib.Decide.{dec_lt}
 use native.Mathlib.Omega.{arith}
 use Rattle.plane.specs.declared.Plane.{Plane}
-use Rattle.plane.specs.Place.{place_of, row_of, column_of, area_of, cut, written}
+use Rattle.plane.specs.Place.{row_of, column_of, area_of, cut, written}
 use Rattle.plane.specs.Plane.{clip, inside, sample_after, plane_after}
 use lib.IntN.{ℤ, pos, ◌+ℤ◌}
 use lib.ListN.{length, get_or}

@@ -1,5 +1,5 @@
 -- `inverse_transform_2d_32` gives each of the driver's numbers when the driver does, and 18 when, and only when, no other number applies and a number of T is outside 16 bits on the way; where it answers 0, the driver does, and the two blocks are one.
-use mathlib.Core.Path.{◌≡◌, refl, sym, ap, subst, ◌∙◌}
+use mathlib.Core.Path.{◌≡◌, refl, sym, subst, ◌∙◌}
 use mathlib.Core.Bool.{Bool, true, false, cond, not, ◌&&◌}
 use mathlib.Core.List.{List, [], ◌∷◌}
 use mathlib.Core.Logic.{◌⊎◌, inl, inr}

@@ -3,13 +3,13 @@ use mathlib.Core.Path.{◌≡◌, refl, sym, ap, ◌∙◌}
 use mathlib.Core.Bool.{Bool, true, false}
 use mathlib.Core.List.{List, [], ◌∷◌}
 use Prim.Native.Nat.{ℕ, zero, suc}
-use borrow.Author.Tests.{ltb-false, eqb-true}
+use borrow.Author.Tests.{ltb-false}
 use lib.Dec.{eqb}
 use lib.ListN.{length}
 use Rattle.vbk_read.specs.Header.{first_record, samples_of, header_answer}
 use Rattle.vbk_read.specs.Records.{next_at, found, end_answer}
-use Rattle.vbk.specs.Replay.{Reconstruction, After, touched_by, plane_of, rebuild_at, rebuilt_at, record_at, records, records_of}
-use Rattle.vbk_write.specs.Clip.{Entry, Clip, entry_at, entries_from, says, whole_from, whole}
+use Rattle.vbk.specs.Replay.{Reconstruction, touched_by, rebuild_at, rebuilt_at, record_at, records, records_of}
+use Rattle.vbk_write.specs.Clip.{Entry, entry_at, entries_from, says, whole_from, whole}
 use Rattle.vbk_write.proofs.Back.{no_entries}
 use Rattle.vbk_write.proofs.Forth.{whole_more, and_right}
 use Rattle.vbk_report.specs.Lists.{beside}

@@ -21,7 +21,6 @@ use Rattle.summary.specs.Replace as Z
 use Rattle.idct.specs.Driver as D
 use Rattle.idct.specs.Rows.{Rowed}
 use Rattle.exports.specs.Rows.{summary_number}
-use Rattle.promises.specs.Conditions.{NoQuantizer}
 use Rattle.promises.specs.Exactly.{Exactly, InOrder}
 use Rattle.promises.specs.When as W
 use Rattle.promises.proofs.Exactly.{Each, none, more, here_if, exactly, in_order}

@@ -1,42 +1,39 @@
 -- The residual as the code has it: of a block of 1,024 whose front holds the coefficients, or by strips of eight columns.
 use mathlib.Core.Path.{◌≡◌, refl, sym, ap, ◌∙◌}
-use mathlib.Core.Bool.{Bool, true, false, cond}
+use mathlib.Core.Bool.{Bool, true, false}
 use mathlib.Core.List.{List}
-use Prim.Native.Nat.{ℕ, zero, suc, ◌+◌, ◌-◌, ◌*◌, ◌/◌, ◌^◌, ◌≤◌, ◌<◌}
+use Prim.Native.Nat.{ℕ, ◌+◌, ◌*◌, ◌^◌, ◌≤◌, ◌<◌}
 use native.Mathlib.Decide.{dec_lt}
 use native.Mathlib.Nat as NatL
 use native.Mathlib.Omega.{arith}
-use lib.Dec.{ltb, eqb, lit≤}
-use lib.IntN.{ℤ, pos, nat_abs, ◌*ℤ◌}
-use lib.Seq.{ext_get_or, get_or-set_same, get_or-set_other}
-use lib.ListN.{length, get_or, set, replicate, length-replicate, get_or-replicate, length-set}
-use Rattle.whole.specs.Lists.{tabulate, fill}
+use lib.IntN.{ℤ, pos}
+use lib.ListN.{length, get_or, replicate, length-replicate}
+use Rattle.whole.specs.Lists.{fill}
 use Rattle.whole.specs.Within.{Within}
 use Rattle.whole.specs.Inner.{AllWithin}
 use Rattle.whole.proofs.Lists.{length_tabulate, get_d_tabulate, length_fill, fill_rest, fill_below}
-use Rattle.whole.proofs.Within.{within_abs, within_le, within_mul, within_lit, within_zero}
-use Rattle.answers.specs.Limits.{COEF_LIMIT, codeable}
+use Rattle.whole.proofs.Within.{within_abs, within_le, within_zero}
 use Rattle.quant.specs.declared.DcQuant.{DcQuant}
 use Rattle.quant.specs.declared.AcQuant.{AcQuant}
 use Rattle.quant.specs.Places.{quantizer_at, dequant_all}
-use Rattle.quant.specs.Token.{dq_denom, dequant}
+use Rattle.quant.specs.Token.{dequant}
 use Rattle.plane.specs.declared.Plane.{Plane}
 use Rattle.plane.specs.Place.{SamplesOf}
 use Rattle.plane.specs.Plane.{plane_after}
 use Rattle.plane.proofs.Block.{same_residuals}
-use Rattle.blocks.specs.Block.{row, column, rows, anew, only_dc, live}
-use Rattle.blocks.specs.Inner.{FirstWithin, dc_value, Possible}
-use Rattle.blocks.specs.Inverse.{apply, row_pass, column_pass, bits, rounding, inverse2d}
-use Rattle.blocks.proofs.Places.{in_row, in_column, by_place}
+use Rattle.blocks.specs.Block.{rows}
+use Rattle.blocks.specs.Inner.{FirstWithin, Possible}
+use Rattle.blocks.specs.Inverse.{apply, row_pass, column_pass, rounding, inverse2d}
+use Rattle.blocks.proofs.Places.{in_row}
 use Rattle.blocks.proofs.Lines.{line_same, zeros_at}
-use Rattle.blocks.proofs.Blocks.{block_ext, rows_at, anew_length, anew_at, anew_past}
-use Rattle.blocks.proofs.Inverse.{inverse2d_length, inverse2d_at, inverse2d_past, inverse2d_within, dc_only_lem}
+use Rattle.blocks.proofs.Blocks.{rows_at}
+use Rattle.blocks.proofs.Inverse.{inverse2d_at, inverse2d_past, inverse2d_within}
 use Rattle.answers.specs.Sizes.{side, area}
 use Rattle.narrow.specs.Tile.{place, raster}
 use Rattle.narrow.proofs.Tile.{raster_at}
-use Rattle.reconstruct.specs.Reconstruct.{bad_quantizers, residual, added}
+use Rattle.reconstruct.specs.Reconstruct.{residual, added}
 use Rattle.reconstruct.specs.Inner.{Accepted}
-use Rattle.tokens.proofs.Sizes.{by_size, area_most, side_most, place_fine}
+use Rattle.tokens.proofs.Sizes.{area_most}
 
 -- ---- lists that agree in the block have the same residual there
 module _ (n tx_type : ℕ) (lossless : Bool) (s t : List ℤ) (room : 2 ^ n * 2 ^ n ≤ length s) (wide : 2 ^ n * 2 ^ n ≤ length t)

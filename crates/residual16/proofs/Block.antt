@@ -1,9 +1,9 @@
 -- What one scan of a block's tokens tells: they are small, so are their coefficients and the sum of these; and what the residual then is.
-use Rattle.std.proofs.Common.{◌≡◌, ℕ, zero, suc, ◌+◌, ◌-◌, ◌*◌, ◌/◌, ◌^◌, ◌<◌, ◌≤◌, Bool, true, false, List, length, get_or, set, replicate, ℤ, pos, nat_abs, sym, refl, ap, ◌∙◌, arith, lit≤, length-set, get_or-set_same}
+use Rattle.std.proofs.Common.{◌≡◌, ℕ, suc, ◌+◌, ◌-◌, ◌*◌, ◌/◌, ◌^◌, ◌<◌, ◌≤◌, false, List, length, get_or, set, replicate, ℤ, pos, nat_abs, sym, ap, ◌∙◌, arith, lit≤, length-set, get_or-set_same}
 use native.Mathlib.Decide.{dec_lt}
 use native.Mathlib.Nat as NatL
 use lib.ListN.{length-replicate, get_or-eq_default}
-use Rattle.whole.specs.Lists.{tabulate, fill}
+use Rattle.whole.specs.Lists.{fill}
 use Rattle.whole.proofs.Lists.{length_tabulate, get_d_tabulate}
 use Rattle.answers.specs.Sizes.{side, area}
 use Rattle.quant.specs.declared.DcQuant.{DcQuant}
@@ -14,10 +14,10 @@ use Rattle.dct.proofs.Dct.{two_to_five}
 use Rattle.blocks.specs.Inner.{dc_value}
 use Rattle.blocks.specs.Inverse.{inverse2d}
 use Rattle.narrow.specs.Tile.{raster}
-use Rattle.weights.specs.Inner.{sum, total}
+use Rattle.weights.specs.Inner.{total}
 use Rattle.weights.proofs.Sums.{total_one}
 use Rattle.narrow_lines.specs.Inner.{Dead}
-use Rattle.residual16.specs.Inner.{Weighed, Scanned, Short, Lent, Served}
+use Rattle.residual16.specs.Inner.{Scanned, Short, Lent, Served}
 use Rattle.residual16.proofs.Sums.{total_most, each_most, added_is, first_alone, shorts, coefs_few, zero_token}
 use Rattle.residual16.proofs.Tiles.{eights, area_most}
 use Rattle.residual16.proofs.Coefs.{flat_made}

@@ -1,10 +1,10 @@
 -- The coefficient at place 0 alone: one number everywhere is the residual.
-use Rattle.std.proofs.Common.{◌≡◌, ℕ, zero, suc, ◌+◌, ◌-◌, ◌*◌, ◌/◌, ◌^◌, ◌<◌, ◌≤◌, Bool, true, false, ltb, List, length, get_or, set, ℤ, pos, nat_abs, sym, refl, ap, ◌∙◌, arith, length-set, get_or-set_same}
+use Rattle.std.proofs.Common.{◌≡◌, ℕ, zero, suc, ◌+◌, ◌-◌, ◌*◌, ◌^◌, ◌<◌, ◌≤◌, Bool, false, List, length, get_or, ℤ, pos, sym, refl, ◌∙◌, arith}
 use native.Mathlib.Nat as NatL
 use lib.Arith.{digits_lt}
-use Rattle.whole.specs.Lists.{tabulate, fill}
+use Rattle.whole.specs.Lists.{fill}
 use Rattle.whole.specs.Tests.{any_below}
-use Rattle.whole.proofs.Lists.{length_tabulate, get_d_tabulate, length_fill, fill_below}
+use Rattle.whole.proofs.Lists.{length_fill, fill_below}
 use Rattle.answers.specs.Sizes.{side, area}
 use Rattle.blocks.specs.Block.{live}
 use Rattle.blocks.specs.Inner.{dc_value}

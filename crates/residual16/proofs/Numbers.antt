@@ -1,6 +1,6 @@
 -- One number at 16 bits: the range of what place 0 gives everywhere.
-use Rattle.std.proofs.Common.{◌≡◌, ℕ, ◌+◌, ◌-◌, ◌*◌, ◌/◌, ◌^◌, ◌<◌, ◌≤◌, min, true, false, ℤ, pos, ◌*ℤ◌, arith, lit≤, w16, SFits}
-use Rattle.whole.specs.Parts.{P, N}
+use Rattle.std.proofs.Common.{◌≡◌, ℕ, ◌+◌, ◌-◌, ◌*◌, ◌/◌, ◌^◌, ◌<◌, ◌≤◌, true, false, ℤ, pos, ◌*ℤ◌, arith, lit≤, w16, SFits}
+use Rattle.whole.specs.Parts.{P}
 use Rattle.whole.specs.Within.{Within}
 use Rattle.whole.proofs.Round.{round2_within}
 use Rattle.whole.proofs.Within.{within_le, within_mul, within_lit, sfits_P, sfits_N}

@@ -1,5 +1,5 @@
 -- The columns rounded in their place are the residual, also where they stand by strips of eight columns.
-use Rattle.std.proofs.Common.{◌≡◌, ℕ, ◌+◌, ◌*◌, ◌<◌, ◌≤◌, false, List, length, get_or, ℤ, pos, sym, ap, ◌∙◌}
+use Rattle.std.proofs.Common.{◌≡◌, ℕ, ◌+◌, ◌*◌, ◌≤◌, false, List, length, get_or, ℤ, pos, sym, ap, ◌∙◌}
 use native.Mathlib.Nat as NatL
 use lib.Arith.{digits_lt}
 use Rattle.whole.specs.Lists.{fill}

@@ -1,5 +1,5 @@
 -- The magnitudes of a block added up: on 64 bits, strip by strip, and as products with the quantizers.
-use Rattle.std.proofs.Common.{◌≡◌, ℕ, zero, suc, ◌+◌, ◌-◌, ◌*◌, ◌/◌, ◌%◌, ◌^◌, ◌<◌, ◌≤◌, Bool, true, false, cond, eqb, List, length, get_or, ℤ, pos, negsuc, nat_abs, sym, refl, ap, ◌∙◌, ⊎_elim, eq-or-lt_of_le, arith, lit≤, ne_eqb}
+use Rattle.std.proofs.Common.{◌≡◌, ℕ, zero, suc, ◌+◌, ◌-◌, ◌*◌, ◌/◌, ◌%◌, ◌^◌, ◌<◌, ◌≤◌, Bool, true, false, cond, eqb, List, length, get_or, ℤ, pos, negsuc, nat_abs, sym, refl, ap, ◌∙◌, arith, lit≤, ne_eqb}
 use native.Mathlib.Nat as NatL
 use native.Mathlib.Decide.{dec_lt}
 use lib.Bits.{bit_or}
@@ -7,7 +7,6 @@ use Rattle.whole.specs.Lists.{tabulate}
 use Rattle.whole.proofs.Lists.{get_d_tabulate}
 use Rattle.answers.specs.Bad.{bad_quantizer}
 use Rattle.answers.proofs.Passed.{quantizer}
-use Rattle.answers.specs.Sizes.{side, area}
 use Rattle.quant.specs.declared.DcQuant.{DcQuant}
 use Rattle.quant.specs.declared.AcQuant.{AcQuant}
 use Rattle.quant.specs.Places.{quantizer_at, dequant_all}
@@ -15,7 +14,7 @@ use Rattle.quant.specs.Token.{dq_denom, dequant}
 use Rattle.quant.proofs.Sign.{dequant_sign, abs_with_sign}
 use Rattle.blocks.proofs.Near.{or_left, or_right}
 use Rattle.weights.specs.Inner.{sum, total}
-use Rattle.weights.proofs.Sums.{sum_same, sum_one, sum_join, total_more}
+use Rattle.weights.proofs.Sums.{sum_same, sum_one, sum_join}
 use Rattle.residual16.specs.Inner.{Weighed, Short}
 
 -- ---- one more number, and a strip more

@@ -1,5 +1,5 @@
 -- A block filled by strips of eight columns, eight numbers at a time.
-use Rattle.std.proofs.Common.{◌≡◌, ℕ, zero, suc, ◌+◌, ◌-◌, ◌*◌, ◌/◌, ◌%◌, ◌^◌, ◌<◌, ◌≤◌, Bool, true, false, cond, List, length, get_or, set, replicate, ℤ, pos, nat_abs, sym, refl, ap, ◌∙◌, arith, lit≤, ext_get_or, pow_pos, ne_eqb}
+use Rattle.std.proofs.Common.{◌≡◌, ℕ, zero, suc, ◌+◌, ◌-◌, ◌*◌, ◌/◌, ◌%◌, ◌<◌, ◌≤◌, List, length, get_or, set, replicate, ℤ, pos, sym, refl, ap, ◌∙◌, arith, lit≤, ext_get_or, pow_pos, ne_eqb}
 use native.Mathlib.Nat as NatL
 use native.Mathlib.Decide.{dec_lt}
 use lib.Arith.{digits_lt, digits_div, digits_mod}
@@ -12,7 +12,7 @@ use Rattle.dct.proofs.Dct.{two_to_five}
 use Rattle.quant.specs.declared.DcQuant.{DcQuant}
 use Rattle.quant.specs.declared.AcQuant.{AcQuant}
 use Rattle.quant.specs.Places.{quantizer_at, dequant_all}
-use Rattle.quant.specs.Token.{dq_denom, dequant}
+use Rattle.quant.specs.Token.{dequant}
 use Rattle.blocks.proofs.Lines.{zeros_at}
 use Rattle.narrow.specs.Tile.{place, raster}
 use Rattle.narrow.proofs.Tile.{place_is, place_lt, raster_is}

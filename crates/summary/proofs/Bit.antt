@@ -14,9 +14,9 @@ use lib.ListN.{get_or, set}
 use lib.Seq.{get_or-set_other}
 use Rattle.whole.specs.Tests.{any_below}
 use Rattle.blocks.specs.Block.{live}
-use Rattle.summary.specs.Summary.{those, mask, is_set, live_rows, summary_of}
+use Rattle.summary.specs.Summary.{mask, is_set, live_rows, summary_of}
 use Rattle.summary.specs.Replace.{with_bit, renewed}
-use Rattle.summary.proofs.Digits.{digits, digits_ext, upd, upd_here, upd_other, or_set, and_clear, as_digits}
+use Rattle.summary.proofs.Digits.{upd, upd_here, upd_other, or_set, and_clear, as_digits}
 use Rattle.summary.proofs.Places.{row_below}
 use Rattle.summary.proofs.Rows.{mask_digits, mask_set, mask_past, those_ext, those_stop}
 

@@ -1,30 +1,22 @@
 -- The row pass over the rows that are live: they are all that there are to do.
-use mathlib.Core.Path.{◌≡◌, refl, sym, ap, ◌∙◌, subst}
+use mathlib.Core.Path.{◌≡◌, refl, sym, ap, ◌∙◌}
 use mathlib.Core.Bool.{Bool, true, false}
-use mathlib.Core.List.{List, [], ◌∷◌, ◌++◌}
+use mathlib.Core.List.{List, [], ◌∷◌}
 use mathlib.Core.Logic.{⊎_elim}
-use Prim.Native.Nat.{ℕ, zero, suc, ◌+◌, ◌*◌, ◌^◌, ◌≤◌, ◌<◌}
-use native.Mathlib.Nat.{le_antisymm, mul-one, eq-or-lt_of_le}
+use Prim.Native.Nat.{ℕ, zero, suc, ◌+◌, ◌*◌, ◌≤◌, ◌<◌}
+use native.Mathlib.Nat.{mul-one, eq-or-lt_of_le}
 use native.Mathlib.Omega.{arith}
 use lib.IntN.{ℤ, pos}
-use lib.ListN.{length, get_or, replicate}
-use Rattle.whole.specs.Lists.{fill}
-use Rattle.whole.specs.Steps.{run, each, when}
-use Rattle.whole.proofs.Steps.{run_join, each_none, each_more, run_when, run_skip}
-use Rattle.steps.proofs.Places.{Stays}
+use lib.ListN.{length, get_or}
+use Rattle.whole.specs.Steps.{run, each}
+use Rattle.whole.proofs.Steps.{run_join}
 use Rattle.steps.proofs.Shapes.{Zeros}
-use Rattle.blocks.specs.Block.{line, row, rows, change_row, live}
-use Rattle.blocks.specs.Inner.{set_line, change_line, Safe}
-use Rattle.blocks.specs.Inverse.{Pass, apply}
-use Rattle.blocks.proofs.Places.{rows_apart}
-use Rattle.blocks.proofs.Lines.{zeros_at, line_length, line_at, line_past, line_same, fill_line, set_line_length, change_line_other}
+use Rattle.blocks.specs.Block.{row, rows, change_row, live}
+use Rattle.blocks.proofs.Lines.{line_length, line_at, line_same}
 use Rattle.blocks.proofs.Live.{dead_at}
-use Rattle.blocks.proofs.Blocks.{block_ext, rows_length, rows_at, rows_past, change_row_length, change_row_past, change_row_at, change_row_other, change_row_line}
-use Rattle.blocks.proofs.Passes.{Valid, pass_zeros}
-use Rattle.blocks.proofs.Inverse.{side_most}
-use Rattle.blocks.proofs.Turns.{Job}
-use Rattle.summary.specs.Summary.{those, is_set, live_rows, summary_of}
-use Rattle.summary.proofs.Rows.{those_yes, those_no, scanned_below}
+use Rattle.blocks.proofs.Blocks.{block_ext, rows_length, rows_at, rows_past, change_row_length, change_row_past, change_row_at, change_row_other}
+use Rattle.summary.specs.Summary.{those, live_rows}
+use Rattle.summary.proofs.Rows.{those_yes, those_no}
 
 -- ---- OVER LIVE: where T keeps zeros, the rows that are live are all rows
 module _ (T : List ℤ → List ℤ) (n0 : ℕ) (s : List ℤ) (short : n0 ≤ 32) (room : n0 * n0 ≤ length s) (zeros : (t : List ℤ) → Zeros n0 t → T t ≡ t) where

@@ -1,5 +1,4 @@
 -- Places of a block: a row is inside the block, and a place is in one row.
-use mathlib.Core.Path.{◌≡◌}
 use Prim.Native.Nat.{ℕ, ◌+◌, ◌*◌, ◌/◌, ◌≤◌, ◌<◌}
 use native.Mathlib.Nat.{mul-le-mul, div-lt_iff_lt-mul}
 use native.Mathlib.Omega.{arith}

@@ -1,11 +1,10 @@
 -- The table gives a list of steps: one computation a list, and then of each entry.
-use mathlib.Core.Path.{◌≡◌, refl, sym, subst, ap, ◌∙◌}
+use mathlib.Core.Path.{◌≡◌, sym, subst}
 use mathlib.Core.Bool.{Bool, true, false, ◌&&◌}
 use mathlib.Core.List.{List, [], ◌∷◌}
 use Prim.Native.Nat.{ℕ, zero, suc, ◌+◌, ◌≤◌, ◌<◌, ◌^◌}
 use native.Mathlib.Omega.{arith}
 use lib.Dec.{T, lit≤}
-use lib.IntN.{ℤ}
 use lib.ListN.{length, get_or, drop}
 use lib.Seq.{get_or-drop}
 use Rattle.whole.specs.Steps.{each, when}
@@ -21,7 +20,7 @@ use Rattle.wht.specs.Wht.{wht_row}
 use Rattle.narrow.proofs.Kept.{placed}
 use Rattle.narrow.proofs.Kept2.{placed2}
 use Rattle.tested.specs.Line.{Sized, pass_of, steps_of}
-use Rattle.tested.specs.Inner.{step_of, ready, given, readies, Gives, first_of, Has, Tables}
+use Rattle.tested.specs.Inner.{step_of, ready, given, readies, first_of, Has, Tables}
 use Rattle.tested.specs.declared.Kind.{Kind}
 use Rattle.tested.specs.declared.Kind.TheVariants.{Dct, Adst, WhtRow, WhtColumn}
 

@@ -1,7 +1,7 @@
 -- A block whose magnitudes come to 31883 or less stays within 16 bits on its whole way, through the rows and the columns.
-use mathlib.Core.Path.{◌≡◌, sym, ap, ◌∙◌}
+use mathlib.Core.Path.{◌≡◌, ap, ◌∙◌}
 use mathlib.Core.List.{List}
-use Prim.Native.Nat.{ℕ, ◌+◌, ◌*◌, ◌^◌, ◌≤◌, ◌<◌}
+use Prim.Native.Nat.{ℕ, ◌+◌, ◌*◌, ◌≤◌, ◌<◌}
 use native.Mathlib.Omega.{arith}
 use lib.IntN.{ℤ, pos, nat_abs}
 use lib.ListN.{length, get_or}
@@ -12,7 +12,7 @@ use Rattle.blocks.proofs.Lines.{line_at, line_length}
 use Rattle.blocks.proofs.Blocks.{rows_at}
 use Rattle.blocks.proofs.Passes.{Valid}
 use Rattle.blocks.proofs.Inverse.{side_most}
-use Rattle.weights.specs.Inner.{sum, total, Keeps}
+use Rattle.weights.specs.Inner.{total, Keeps}
 use Rattle.weights.proofs.Sums.{sum_weighs, total_rows, total_row}
 use Rattle.weights.proofs.Steps.{Reaches}
 use Rattle.weights.proofs.Passes.{pass_weights}

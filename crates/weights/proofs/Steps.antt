@@ -1,25 +1,24 @@
 -- Forms through the steps of T: a walk that meets light forms alone leaves every number within 16 bits.
-use mathlib.Core.Path.{◌≡◌, refl, sym, ◌∙◌}
+use mathlib.Core.Path.{◌≡◌, refl, ◌∙◌}
 use mathlib.Core.Bool.{Bool, true, false}
 use mathlib.Core.List.{List, [], ◌∷◌}
 use Prim.Native.Nat.{ℕ, ◌+◌, ◌*◌, ◌≤◌, ◌<◌}
 use native.Mathlib.Nat as NatL
 use native.Mathlib.Omega.{arith}
 use lib.Dec.{leb, ltb, T, leb→le, ltb→lt}
-use lib.IntN.{ℤ, pos, nat_abs, neg_ℤ, ◌+ℤ◌, ◌-ℤ◌}
+use lib.IntN.{ℤ, pos, nat_abs}
 use lib.ListN.{length, get_or, set}
-use Rattle.whole.specs.Round.{Round2}
 use Rattle.whole.specs.Lists.{move}
 use Rattle.whole.specs.Steps.{run}
 use Rattle.whole.specs.Inner.{Ok}
 use Rattle.whole.proofs.Tests.{both, all_below, b₁, b₂, below}
 use Rattle.whole.proofs.Parts.{abs_parts}
 use Rattle.whole.proofs.Steps.{ok_here, ok_rest, checks, checks_sound}
-use Rattle.primitives.specs.Rotations.{turn_x, turn_y, apply_b, apply_h}
+use Rattle.primitives.specs.Rotations.{apply_b, apply_h}
 use Rattle.steps.specs.Step.{Step, Bf, Hd, Neg, Move, A4, Wh, step}
 use Rattle.steps.proofs.Places.{every}
 use Rattle.narrow.specs.Kept.{short, shorts, kept}
-use Rattle.narrow.specs.Inner.{short_pair, fits_h, fits, passes, fits_all}
+use Rattle.narrow.specs.Inner.{short_pair, fits_h, fits, passes}
 use Rattle.narrow.proofs.Short.{short_in}
 use Rattle.narrow.proofs.Kept.{and_true, shorts_all, placed, two, kept_fits}
 use Rattle.weights.specs.Inner.{total}

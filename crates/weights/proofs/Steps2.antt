@@ -1,11 +1,10 @@
 -- Forms through the steps of T and S: those of S are not rounded, and S does not count.
 use mathlib.Core.Path.{◌≡◌, refl, ◌∙◌}
-use mathlib.Core.Bool.{Bool, true, false, not}
+use mathlib.Core.Bool.{Bool, true}
 use mathlib.Core.List.{List}
 use Prim.Native.Nat.{ℕ, ◌+◌, ◌*◌, ◌≤◌, ◌<◌}
-use native.Mathlib.Omega.{arith}
 use lib.Dec.{leb, T, leb→le}
-use lib.IntN.{ℤ, pos, nat_abs}
+use lib.IntN.{ℤ, pos}
 use lib.ListN.{length, get_or, set, replicate}
 use Rattle.whole.specs.Steps.{run}
 use Rattle.whole.proofs.Tests.{both, b₁, b₂}
@@ -13,12 +12,12 @@ use Rattle.whole.proofs.Steps.{checks, checks_sound}
 use Rattle.primitives.specs.Rotations.{apply_sb, apply_sh}
 use Rattle.steps.specs.Step2.{Arrays, Step2, on, SB, SH, step2, fresh}
 use Rattle.steps.proofs.Places.{every}
-use Rattle.narrow.specs.Kept.{shorts, kept2}
-use Rattle.narrow.specs.Inner.{fits2, passes}
+use Rattle.narrow.specs.Kept.{kept2}
+use Rattle.narrow.specs.Inner.{fits2}
 use Rattle.narrow.proofs.Kept.{two}
 use Rattle.narrow.proofs.Kept2.{placed2, kept2_fits}
 use Rattle.weights.specs.Inner.{total}
-use Rattle.weights.proofs.Forms.{Form, nil, add_f, sub_f, turn_xf, turn_yf, round_f, light, mass, w_add, w_sub, w_turn_x, w_turn_y, w_round}
+use Rattle.weights.proofs.Forms.{Form, nil, add_f, sub_f, turn_xf, turn_yf, round_f, mass, w_add, w_sub, w_turn_x, w_turn_y, w_round}
 use Rattle.weights.proofs.Beside.{units, pair_f, Beside, beside_two, beside_pair, beside_units, beside_zeros}
 use Rattle.weights.proofs.Steps.{weigh, lights, lights_short, calm, calm_step, ok_passes, ends, Reaches, start_short, ends_reach}
 

@@ -1,10 +1,10 @@
 -- Laws of the inverse WHT: entries from 4 on stay, zeros stay zeros, at shift 0 it is its own inverse, four times a row at shift 2 is the row at shift 0.
 use mathlib.Core.Path.{◌≡◌, refl, sym, ◌∙◌}
 use mathlib.Core.List.{List, [], ◌∷◌}
-use Prim.Native.Nat.{ℕ, zero, suc, ◌+◌, ◌*◌, ◌^◌, ◌≤◌, ◌<◌}
+use Prim.Native.Nat.{ℕ, zero, suc, ◌+◌, ◌^◌, ◌≤◌, ◌<◌}
 use native.Mathlib.Omega.{arith}
 use lib.IntN.{ℤ, pos, ◌+ℤ◌, ◌-ℤ◌, ◌*ℤ◌}
-use lib.ListN.{length, get_or, replicate}
+use lib.ListN.{length, get_or}
 use lib.Signed.{shr_z}
 use Rattle.whole.specs.Parts.{P, N}
 use Rattle.whole.proofs.Ring.{E, at, ◌⊕◌, ◌⊖◌, ev, sound, ring}

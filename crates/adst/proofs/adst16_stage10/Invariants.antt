@@ -1,12 +1,8 @@
 use mathlib.Core.Path.{◌≡◌}
 use Prim.Native.Nat.{◌≤◌, ◌-◌}
-use native.Mathlib.Omega.{arith}
-use borrow.Author.Rules.{rules}
 use Rattle.whole.specs.Steps.{run, each}
-use Rattle.whole.proofs.Steps.{each_more, ok_turn, ok_here, loops}
 use Rattle.steps.specs.Step.{step}
 use Rattle.adst.specs.Adst.{sixteen10}
-use Rattle.adst.proofs.Angles.{xor_fits, xor_product_fits, xor_angle_fits, xor_angle_is}
 use Rattle.adst.proofs.adst16_stage10.Given as goal
 
 abbrev pub invariant-loop-j : goal.invariant-loop-j

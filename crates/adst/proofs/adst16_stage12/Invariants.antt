@@ -1,11 +1,6 @@
 use mathlib.Core.Path.{◌≡◌}
 use Prim.Native.Nat.{◌≤◌, ◌-◌}
-use native.Mathlib.Omega.{arith}
-use mir.Syntax.{w64}
-use borrow.Author.Rules.{rules}
-use Rattle.whole.proofs.Signed.{loc, minus, fits, value}
 use Rattle.whole.specs.Steps.{run, each}
-use Rattle.whole.proofs.Steps.{each_more, ok_turn, ok_here, loops}
 use Rattle.steps.specs.Step.{step}
 use Rattle.adst.specs.Adst.{sixteen12}
 use Rattle.adst.proofs.adst16_stage12.Given as goal

@@ -1,13 +1,9 @@
-use mathlib.Core.Path.{◌≡◌, ap}
+use mathlib.Core.Path.{◌≡◌}
 use Prim.Native.Nat.{◌≤◌, ◌-◌}
-use native.Mathlib.Omega.{arith}
-use borrow.Author.Rules.{rules}
 use Rattle.whole.specs.Steps.{run, each}
-use Rattle.whole.proofs.Steps.{each_more, ok_turn, ok_here, loops}
 use Rattle.steps.specs.Step2.{step2}
 use Rattle.adst.specs.Adst.{sixteen2}
 use Rattle.adst.specs.Inner.{arrays}
-use Rattle.adst.proofs.Angles.{turn_fits, product_fits, angle_fits, angle_is}
 use Rattle.adst.proofs.adst16_stage2.Given as goal
 
 abbrev pub invariant-loop-i : goal.invariant-loop-i

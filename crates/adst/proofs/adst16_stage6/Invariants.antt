@@ -1,9 +1,6 @@
 use mathlib.Core.Path.{◌≡◌}
 use Prim.Native.Nat.{◌≤◌, ◌-◌}
-use native.Mathlib.Omega.{arith}
-use borrow.Author.Rules.{rules}
 use Rattle.whole.specs.Steps.{run, each}
-use Rattle.whole.proofs.Steps.{each_more, ok_turn, ok_here, loops}
 use Rattle.steps.specs.Step.{step}
 use Rattle.adst.specs.Adst.{sixteen6}
 use Rattle.adst.proofs.adst16_stage6.Given as goal

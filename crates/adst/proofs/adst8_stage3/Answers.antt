@@ -1,9 +1,8 @@
 -- `adst::adst8_stage3` meets its contract.
-use mathlib.Core.Path.{◌≡◌, ap}
-use Prim.Native.Nat.{◌≤◌, ◌-◌}
+use mathlib.Core.Path.{ap}
 use native.Mathlib.Omega.{arith}
 use borrow.Author.Rules.{rules}
-use Rattle.whole.specs.Steps.{run, each}
+use Rattle.whole.specs.Steps.{run}
 use Rattle.whole.proofs.Steps.{each_more, ok_turn, ok_here, loops}
 use Rattle.steps.specs.Step2.{step2}
 use Rattle.adst.specs.Adst.{eight3}

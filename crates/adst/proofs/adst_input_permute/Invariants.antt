@@ -1,17 +1,8 @@
-use mathlib.Core.Path.{◌≡◌, refl, subst}
-use mathlib.Core.List.{List}
-use Prim.Native.Nat.{ℕ, ◌≤◌, ◌-◌, ◌+◌, ◌*◌, ◌%◌, ◌^◌}
-use native.Mathlib.Omega.{arith}
-use lib.IntN.{ℤ, pos}
-use lib.ListN.{get_or, set}
-use mir.Syntax.{w64}
-use borrow.Author.Rules.{rules}
-use borrow.Author.Tests.{eq-eqb, ne_eqb}
-use Rattle.whole.specs.Lists.{fill, move}
-use Rattle.whole.proofs.Lists.{fill_none, fill_more, fill_done}
-use Rattle.whole.proofs.Round.{two_halves}
-use Rattle.whole.proofs.Signed.{rd_ok}
-use Rattle.steps.specs.Step.{step}
+use mathlib.Core.Path.{◌≡◌}
+use Prim.Native.Nat.{◌≤◌, ◌-◌, ◌*◌}
+use lib.IntN.{pos}
+use lib.ListN.{get_or}
+use Rattle.whole.specs.Lists.{fill}
 use Rattle.adst.specs.Adst.{adst_in}
 use Rattle.adst.proofs.adst_input_permute.Given as goal
 

@@ -1,16 +1,13 @@
 -- `adst::adst_output_permute` meets its contract.
-use mathlib.Core.Path.{◌≡◌}
-use Prim.Native.Nat.{◌≤◌, ◌-◌, ◌^◌}
+use Prim.Native.Nat.{◌^◌}
 use native.Mathlib.Omega.{arith}
 use lib.IntN.{pos}
 use lib.ListN.{get_or}
 use mir.Syntax.{w64}
-use borrow.Author.Rules.{rules}
-use Rattle.whole.specs.Lists.{fill, move}
+use Rattle.whole.specs.Lists.{move}
 use Rattle.whole.proofs.Lists.{fill_none, fill_more, fill_done}
 use Rattle.whole.proofs.Signed.{rd_ok}
 use Rattle.steps.specs.Step.{step}
-use Rattle.adst.specs.Adst.{adst_out}
 use Rattle.adst.proofs.adst_output_permute.Goals as goal
 
 pub loop-k-init : goal.loop-k-init

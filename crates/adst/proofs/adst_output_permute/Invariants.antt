@@ -1,14 +1,8 @@
 use mathlib.Core.Path.{◌≡◌}
-use Prim.Native.Nat.{◌≤◌, ◌-◌, ◌^◌}
-use native.Mathlib.Omega.{arith}
+use Prim.Native.Nat.{◌≤◌, ◌-◌}
 use lib.IntN.{pos}
 use lib.ListN.{get_or}
-use mir.Syntax.{w64}
-use borrow.Author.Rules.{rules}
-use Rattle.whole.specs.Lists.{fill, move}
-use Rattle.whole.proofs.Lists.{fill_none, fill_more, fill_done}
-use Rattle.whole.proofs.Signed.{rd_ok}
-use Rattle.steps.specs.Step.{step}
+use Rattle.whole.specs.Lists.{fill}
 use Rattle.adst.specs.Adst.{adst_out}
 use Rattle.adst.proofs.adst_output_permute.Given as goal
 

@@ -3,7 +3,6 @@ use mathlib.Core.List.{List, [], ◌∷◌}
 use Prim.Native.Nat.{◌^◌}
 use lib.IntN.{ℤ, pos}
 use lib.ListN.{replicate}
-use borrow.Author.Rules.{rules}
 use Rattle.whole.specs.Steps.{◌⨾◌, run, each}
 use Rattle.whole.proofs.Steps.{Left, left_all, left_stage, left_first}
 use Rattle.steps.specs.Step.{Move}

@@ -5,7 +5,6 @@ use Prim.Native.Nat.{◌^◌}
 use lib.Dec.{lit≤}
 use lib.IntN.{ℤ, pos}
 use mir.Syntax.{w64}
-use borrow.Author.Rules.{rules}
 use Rattle.whole.specs.Round.{Round2}
 use Rattle.whole.proofs.Signed.{C, loc, lit, ◌⊕◌, ◌⊖◌, ◌⊗◌, val, code, rd_ok, fits, within, value}
 use Rattle.whole.specs.Within.{Within}

@@ -2,7 +2,6 @@
 use mathlib.Core.Path.{◌≡◌, refl}
 use Prim.Native.Nat.{◌≤◌, ◌*◌, ◌%◌, ◌^◌}
 use lib.Dec.{lit≤}
-use borrow.Author.Rules.{rules}
 use Rattle.adst.proofs.Adst.{two_to_four}
 use Rattle.adst.proofs.side.Goals as goal
 

@@ -3,7 +3,6 @@ use native.Mathlib.Omega.{arith}
 use lib.Dec.{lit<}
 use lib.IntN.{ℤ, pos}
 use lib.ListN.{get_or}
-use borrow.Author.Rules.{rules}
 use mir.Syntax.{w16, w64}
 use mir.Val.{SFits}
 use mir.Facts.{to_z-of_z}

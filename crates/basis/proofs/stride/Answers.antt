@@ -1,6 +1,5 @@
 use mathlib.Core.Path.{◌≡◌}
 use native.Mathlib.Omega.{arith}
-use borrow.Author.Rules.{rules}
 use Rattle.basis.proofs.stride.Goals as goal
 
 pub returns-in-2 : goal.returns-in-2

@@ -1,10 +1,6 @@
-use mathlib.Core.Logic.{⊎_elim}
-use mathlib.Core.Path.{◌≡◌, ◌∙◌}
+use mathlib.Core.Path.{◌≡◌}
 use Prim.Native.Nat.{◌≤◌, ◌-◌}
-use native.Mathlib.Omega.{arith}
-use borrow.Author.Rules.{rules}
 use Rattle.blocks.specs.Block.{live}
-use Rattle.blocks.proofs.Live.{live_none, live_next, live_hit}
 use Rattle.blocks.proofs.any_live.Given as goal
 
 abbrev pub invariant-loop-k : goal.invariant-loop-k

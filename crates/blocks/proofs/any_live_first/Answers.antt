@@ -1,4 +1,3 @@
-use borrow.Author.Rules.{rules}
 use Rattle.blocks.proofs.Live.{live_first, live_rest}
 use Rattle.blocks.proofs.any_live_first.Goals as goal
 

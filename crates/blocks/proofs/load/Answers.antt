@@ -1,12 +1,9 @@
 use mir.Syntax.{w64}
 use mir.Facts.{to_z-of_z}
-use mathlib.Core.Path.{◌≡◌}
-use Prim.Native.Nat.{◌≤◌, ◌<◌, ◌-◌, ◌+◌, ◌*◌}
+use Prim.Native.Nat.{◌<◌, ◌+◌, ◌*◌}
 use native.Mathlib.Omega.{arith}
 use borrow.Author.Rules.{rules}
-use lib.IntN.{pos}
-use lib.ListN.{length, get_or}
-use Rattle.whole.specs.Lists.{fill}
+use lib.ListN.{length}
 use Rattle.whole.proofs.Lists.{fill_none, fill_more, fill_done}
 use Rattle.blocks.proofs.load.Goals as goal
 use Rattle.blocks.proofs.load.Goals.{In-loop-k}

@@ -1,13 +1,8 @@
-use mir.Syntax.{w64}
-use mir.Facts.{to_z-of_z}
 use mathlib.Core.Path.{◌≡◌}
-use Prim.Native.Nat.{◌≤◌, ◌<◌, ◌-◌, ◌+◌, ◌*◌}
-use native.Mathlib.Omega.{arith}
-use borrow.Author.Rules.{rules}
+use Prim.Native.Nat.{◌≤◌, ◌-◌, ◌+◌, ◌*◌}
 use lib.IntN.{pos}
-use lib.ListN.{length, get_or}
+use lib.ListN.{get_or}
 use Rattle.whole.specs.Lists.{fill}
-use Rattle.whole.proofs.Lists.{fill_none, fill_more, fill_done}
 use Rattle.blocks.proofs.load.Given as goal
 
 abbrev pub invariant-loop-k : goal.invariant-loop-k

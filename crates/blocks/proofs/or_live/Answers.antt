@@ -1,13 +1,10 @@
 use mathlib.Core.Path.{◌≡◌, ◌∙◌}
-use Prim.Native.Nat.{◌+◌, ◌-◌, ◌≤◌}
+use Prim.Native.Nat.{◌+◌}
 use native.Mathlib.Omega.{arith}
-use borrow.Author.Rules.{rules}
-use lib.Dec.{ltb}
 use lib.IntN.{pos}
 use lib.ListN.{get_or}
 use mir.Syntax.{w64}
 use mir.Facts.{to_z-of_z}
-use Rattle.blocks.specs.Block.{live}
 use Rattle.blocks.proofs.Live.{counted, or_live_none, or_live_more}
 use Rattle.blocks.proofs.or_live.Goals as goal
 

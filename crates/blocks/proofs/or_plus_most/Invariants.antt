@@ -1,11 +1,6 @@
 use Prim.Native.Nat.{ℕ, ◌+◌, ◌-◌, ◌≤◌, ◌<◌}
-use native.Mathlib.Omega.{arith}
-use borrow.Author.Rules.{rules}
 use lib.IntN.{pos, nat_abs}
 use lib.ListN.{get_or}
-use mir.Syntax.{w64}
-use mir.Facts.{to_z-of_z}
-use Rattle.blocks.proofs.Near.{plus_most_more}
 use Rattle.blocks.proofs.or_plus_most.Given as goal
 
 abbrev pub invariant-loop-k : goal.invariant-loop-k

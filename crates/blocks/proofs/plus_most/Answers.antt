@@ -7,7 +7,6 @@ use mir.Val.{to_z, of_z}
 use mir.ValLaws.{to_z-of_z}
 use Rattle.answers.proofs.Absolute.{not_neg}
 use Rattle.blocks.proofs.Near.{abs_most}
-use borrow.Author.Rules.{rules}
 use Rattle.blocks.proofs.plus_most.Goals as goal
 use Rattle.blocks.proofs.plus_most.Goals.{After-magnitude-m, Start}
 

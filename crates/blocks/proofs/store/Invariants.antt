@@ -1,14 +1,8 @@
-use mir.Syntax.{w64}
-use mir.Facts.{to_z-of_z}
 use mathlib.Core.Path.{◌≡◌}
-use Prim.Native.Nat.{◌≤◌, ◌<◌, ◌-◌, ◌+◌, ◌*◌}
-use native.Mathlib.Omega.{arith}
-use borrow.Author.Rules.{rules}
+use Prim.Native.Nat.{◌≤◌, ◌-◌, ◌+◌, ◌*◌}
 use lib.IntN.{pos}
-use lib.ListN.{length, length-set, get_or, set}
+use lib.ListN.{length, get_or, set}
 use Rattle.whole.specs.Inner.{times}
-use Rattle.whole.proofs.Loops.{loops, times_more}
-use Rattle.blocks.specs.Inner.{set_line}
 use Rattle.blocks.proofs.store.Given as goal
 
 abbrev pub invariant-loop-k : goal.invariant-loop-k

@@ -6,7 +6,6 @@ use mir.Val.{to_z, of_z}
 use Rattle.whole.specs.Lists.{fill}
 use Rattle.whole.proofs.Signed.{rd_ok}
 use Rattle.blocks.specs.Inner.{dc_value}
-use borrow.Author.Rules.{rules}
 use Rattle.dc.proofs.dc_fill.Goals as goal
 
 pub returns : goal.returns

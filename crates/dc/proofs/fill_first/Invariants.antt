@@ -1,13 +1,7 @@
-use mathlib.Core.Path.{◌≡◌, refl}
+use mathlib.Core.Path.{◌≡◌}
 use Prim.Native.Nat.{◌-◌, ◌≤◌}
-use native.Mathlib.Omega.{arith}
-use borrow.Author.Rules.{rules}
-use lib.ListN.{length, length-set}
-use mir.Syntax.{w64}
-use mir.Val.{to_z}
-use mir.Facts.{to_z-of_z}
+use lib.ListN.{length}
 use Rattle.whole.specs.Lists.{fill}
-use Rattle.whole.proofs.Lists.{fill_none, fill_more}
 use Rattle.dc.proofs.fill_first.Given as goal
 
 abbrev pub invariant-loop-i : goal.invariant-loop-i

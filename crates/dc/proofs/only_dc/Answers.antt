@@ -3,7 +3,6 @@ use mathlib.Core.Path.{ap}
 use mathlib.Core.Bool.{not}
 use borrow.Author.Tests.{ne_eqb}
 use Rattle.blocks.specs.Block.{only_dc}
-use borrow.Author.Rules.{rules}
 use Rattle.dc.proofs.only_dc.Goals as goal
 
 pub returns-then-tx_type-ne0 : goal.returns-then-tx_type-ne0

@@ -1,6 +1,5 @@
-use mathlib.Core.Path.{◌≡◌, ap}
+use mathlib.Core.Path.{ap}
 use mathlib.Core.Bool.{not}
-use borrow.Author.Rules.{rules}
 use Rattle.dc.proofs.within.Goals as goal
 
 pub returns-then-surely_within : goal.returns-then-surely_within

@@ -1,7 +1,7 @@
 use mathlib.Core.Path.{◌≡◌, ◌∙◌}
 use mathlib.Core.Bool.{true}
 use mathlib.Core.List.{List}
-use Prim.Native.Nat.{ℕ, ◌-◌, ◌≤◌, ◌<◌, ◌^◌}
+use Prim.Native.Nat.{ℕ, ◌-◌, ◌≤◌, ◌^◌}
 use native.Mathlib.Omega.{arith}
 use lib.IntN.{ℤ, pos}
 use Rattle.whole.specs.Steps.{◌⨾◌, run}
@@ -29,7 +29,7 @@ rest t c =
     let n = c.args.n in
     let go = left_stage (dct_steps (n - 1)) (tail n) (all n c.args.t c.requires.0 c.requires.2) in
     elim c.if-n-eq2.branch [
-      then-n-eq2 w ↦ go (w.t-is ∙ one n c.args.t w.if-n-eq2.true w.butterfly.ensures)
+      | then-n-eq2 w ↦ go (w.t-is ∙ one n c.args.t w.if-n-eq2.true w.butterfly.ensures)
       | else-n-eq2 w ↦ go (w.t-is ∙ w.inverse_dct-r.ensures)
     ]
 

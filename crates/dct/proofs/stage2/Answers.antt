@@ -1,9 +1,8 @@
-use mathlib.Core.Path.{◌≡◌}
-use Prim.Native.Nat.{◌≤◌, ◌-◌, ◌/◌}
+use Prim.Native.Nat.{◌/◌}
 use native.Mathlib.Omega.{arith}
 use borrow.Author.Rules.{rules}
 use mir.Syntax.{w32}
-use Rattle.whole.specs.Steps.{run, each}
+use Rattle.whole.specs.Steps.{run}
 use Rattle.whole.proofs.Signed.{rd_ok}
 use Rattle.whole.proofs.Steps.{each_more, ok_turn, ok_here, loops}
 use Rattle.steps.specs.Step.{step}

@@ -1,12 +1,8 @@
-use mathlib.Core.Path.{◌≡◌, ◌∙◌}
-use Prim.Native.Nat.{◌≤◌, ◌-◌, ◌/◌}
-use native.Mathlib.Omega.{arith}
-use borrow.Author.Rules.{rules}
-use borrow.Author.Tests.{le-leb, lt-leb}
+use mathlib.Core.Path.{◌≡◌}
+use Prim.Native.Nat.{◌≤◌, ◌-◌}
 use Rattle.whole.specs.Steps.{run, each}
-use Rattle.whole.proofs.Steps.{each_more, each_done, ok_turn, ok_here, ok_when, run_when, run_skip, loops}
 use Rattle.steps.specs.Step.{step}
-use Rattle.dct.specs.Dct.{turn3, steps3}
+use Rattle.dct.specs.Dct.{turn3}
 use Rattle.dct.proofs.stage3.Given as goal
 
 abbrev pub invariant-loop-j : goal.invariant-loop-j

@@ -1,16 +1,8 @@
 use mathlib.Core.Path.{◌≡◌}
-use Prim.Native.Nat.{◌≤◌, ◌-◌, ◌+◌, ◌*◌, ◌/◌}
-use native.Mathlib.Omega.{arith}
-use borrow.Author.Rules.{rules}
-use lib.IntN.{pos}
-use mir.Syntax.{w32}
-use mir.Val.{to_z}
-use mir.Facts.{to_z_pos}
+use Prim.Native.Nat.{◌≤◌, ◌-◌}
 use Rattle.whole.specs.Steps.{run, each}
-use Rattle.whole.proofs.Steps.{each_more, ok_turn, ok_here, loops}
 use Rattle.steps.specs.Step.{step}
 use Rattle.dct.specs.Dct.{turn5a}
-use Rattle.dct.proofs.Dct.{quarter}
 use Rattle.dct.proofs.stage5a.Given as goal
 
 abbrev pub invariant-loop-j : goal.invariant-loop-j

@@ -1,12 +1,8 @@
 use mathlib.Core.Path.{◌≡◌}
-use Prim.Native.Nat.{◌≤◌, ◌-◌, ◌*◌}
-use native.Mathlib.Omega.{arith}
-use borrow.Author.Rules.{rules}
+use Prim.Native.Nat.{◌≤◌, ◌-◌}
 use Rattle.whole.specs.Steps.{run, each}
-use Rattle.whole.proofs.Steps.{each_more, ok_turn, ok_here, loops}
 use Rattle.steps.specs.Step.{step}
 use Rattle.dct.specs.Dct.{turn5b}
-use Rattle.dct.proofs.Dct.{quarter}
 use Rattle.dct.proofs.stage5b.Given as goal
 
 abbrev pub invariant-loop-j : goal.invariant-loop-j

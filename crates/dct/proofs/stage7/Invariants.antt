@@ -1,11 +1,8 @@
 use mathlib.Core.Path.{◌≡◌}
-use Prim.Native.Nat.{◌≤◌, ◌-◌, ◌/◌}
-use native.Mathlib.Omega.{arith}
-use borrow.Author.Rules.{rules}
+use Prim.Native.Nat.{◌≤◌, ◌-◌}
 use Rattle.whole.specs.Steps.{run, each}
-use Rattle.whole.proofs.Steps.{each_more, ok_turn, ok_here, loops}
 use Rattle.steps.specs.Step.{step}
-use Rattle.dct.specs.Dct.{turn7, steps7}
+use Rattle.dct.specs.Dct.{turn7}
 use Rattle.dct.proofs.stage7.Given as goal
 
 abbrev pub invariant-loop-i : goal.invariant-loop-i

@@ -1,6 +1,5 @@
 use mathlib.Core.List.{List}
 use Prim.Native.Nat.{ℕ, ◌^◌}
-use borrow.Author.Rules.{rules}
 use Rattle.whole.specs.Steps.{◌⨾◌, run}
 use Rattle.whole.proofs.Steps.{Left, left_all, left_stage, left_first, left_last}
 use Rattle.steps.specs.Step.{Step, step}

@@ -1,8 +1,7 @@
-use mathlib.Core.Path.{◌≡◌, sym, ap, subst, ◌∙◌}
+use mathlib.Core.Path.{sym, ap, subst, ◌∙◌}
 use Prim.Native.Nat.{◌≤◌}
 use mir.Syntax.{w32}
 use mir.ValLaws.{to_z-of_z}
-use borrow.Author.Rules.{rules}
 use Rattle.summary.specs.declared.Row.{Row}
 use Rattle.rows_told.specs.Rows.{row_number}
 use Rattle.rows_told.specs.Inner.{place_of}

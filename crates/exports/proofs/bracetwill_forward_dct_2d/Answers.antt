@@ -1,5 +1,4 @@
 use mathlib.Core.Path.{◌∙◌}
-use borrow.Author.Rules.{rules}
 use Rattle.exports.proofs.bracetwill_forward_dct_2d.Goals as goal
 
 pub returns : goal.returns

@@ -1,5 +1,4 @@
 use native.Mathlib.Omega.{arith}
-use borrow.Author.Rules.{rules}
 use Rattle.exports.proofs.Rows.{counted, not_counted}
 use Rattle.exports.proofs.bracetwill_inverse_transform_2d_rows.Goals as goal
 

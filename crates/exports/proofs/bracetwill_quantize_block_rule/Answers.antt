@@ -1,7 +1,6 @@
 use mathlib.Core.Path.{◌∙◌}
 use mir.Syntax.{w32}
 use mir.ValLaws.{to_z-of_z}
-use borrow.Author.Rules.{rules}
 use Rattle.exports.proofs.bracetwill_quantize_block_rule.Goals as goal
 
 -- the two quantizers, as they were handed over

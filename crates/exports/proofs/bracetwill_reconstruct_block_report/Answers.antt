@@ -3,7 +3,6 @@ use mathlib.Core.List.{List}
 use Prim.Native.Nat.{ℕ}
 use mir.Syntax.{w32}
 use mir.ValLaws.{to_z-of_z}
-use borrow.Author.Rules.{rules}
 use Rattle.exports.specs.Report.{Lent}
 use Rattle.exports.proofs.bracetwill_reconstruct_block_report.Goals as goal
 

@@ -1,7 +1,6 @@
 use mathlib.Core.Path.{◌∙◌}
 use mir.Syntax.{w32, w64}
 use mir.ValLaws.{to_z-of_z}
-use borrow.Author.Rules.{rules}
 use Rattle.exports.proofs.Rows.{together}
 use Rattle.exports.proofs.bracetwill_replace_token.Goals as goal
 

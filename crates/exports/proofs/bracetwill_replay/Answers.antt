@@ -1,5 +1,4 @@
 use native.Mathlib.Omega.{arith}
-use borrow.Author.Rules.{rules}
 use Rattle.exports.proofs.Figures.{short, refused, done}
 use Rattle.exports.proofs.bracetwill_replay.Goals as goal
 

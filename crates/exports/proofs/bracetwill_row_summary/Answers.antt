@@ -1,5 +1,4 @@
 use mathlib.Core.Path.{sym, ◌∙◌}
-use borrow.Author.Rules.{rules}
 use Rattle.exports.proofs.Rows.{summed, not_summed}
 use Rattle.exports.proofs.bracetwill_row_summary.Goals as goal
 

@@ -1,5 +1,4 @@
 use mathlib.Core.Path.{refl}
-use borrow.Author.Rules.{rules}
 use Rattle.exports.specs.Write.{Request}
 use Rattle.exports.proofs.Written.{refused, done}
 use Rattle.exports.proofs.bracetwill_vbk_write.Goals as goal

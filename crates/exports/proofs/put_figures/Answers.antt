@@ -1,6 +1,5 @@
 use native.Mathlib.Omega.{arith}
 use lib.ListN.{length-set}
-use borrow.Author.Rules.{rules}
 use Rattle.exports.proofs.Figures.{front}
 use Rattle.exports.proofs.put_figures.Goals as goal
 

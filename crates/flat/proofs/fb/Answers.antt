@@ -6,7 +6,6 @@ use lib.Dec.{lit≤}
 use lib.IntN.{ℤ, pos}
 use lib.ListN.{get_or}
 use mir.Syntax.{w64}
-use borrow.Author.Rules.{rules}
 use Rattle.whole.specs.Round.{Round2}
 use Rattle.whole.proofs.Signed.{rd, rd_ok}
 use Rattle.whole.proofs.Within.{within_le}

@@ -1,5 +1,4 @@
 -- `flat::fh` meets its contract.
-use borrow.Author.Rules.{rules}
 use Rattle.steps.specs.Step.{step}
 use Rattle.flat.proofs.fh.Goals as goal
 

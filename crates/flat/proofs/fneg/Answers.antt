@@ -1,7 +1,5 @@
 -- `flat::fneg` meets its contract.
-use Prim.Native.Nat.{◌^◌}
 use mir.Syntax.{w64}
-use borrow.Author.Rules.{rules}
 use Rattle.whole.proofs.Signed.{loc, minus, fits, value}
 use Rattle.steps.specs.Step.{step}
 use Rattle.flat.proofs.fneg.Goals as goal

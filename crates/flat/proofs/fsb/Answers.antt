@@ -5,7 +5,6 @@ use mathlib.Core.Path.{◌≡◌}
 use lib.IntN.{ℤ, pos}
 use lib.ListN.{get_or}
 use mir.Syntax.{w64}
-use borrow.Author.Rules.{rules}
 use Rattle.whole.proofs.Signed.{rd}
 use Rattle.primitives.specs.Rotations.{apply_sb, set_pair, turn_x, turn_y}
 use Rattle.steps.specs.Step2.{step2}

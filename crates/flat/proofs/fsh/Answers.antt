@@ -2,7 +2,6 @@
 use mathlib.Core.Path.{ap}
 use mathlib.Core.List.{List}
 use lib.IntN.{ℤ}
-use borrow.Author.Rules.{rules}
 use Rattle.steps.specs.Step2.{step2}
 use Rattle.adst.specs.Inner.{arrays}
 use Rattle.flat.proofs.fsh.Goals as goal

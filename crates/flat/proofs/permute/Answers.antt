@@ -1,14 +1,12 @@
 -- `flat::permute` meets its contract: after a groups of k and b turns more, one exchange for each number below k a + b.
 use mathlib.Core.Path.{◌≡◌, sym, ap, ◌∙◌}
-use mathlib.Core.List.{List}
-use Prim.Native.Nat.{ℕ, ◌+◌, ◌-◌, ◌*◌, ◌^◌, ◌≤◌, ◌<◌}
+use Prim.Native.Nat.{ℕ, ◌+◌, ◌*◌, ◌<◌}
 use native.Mathlib.Nat as NatL
 use native.Mathlib.Omega.{arith}
-use lib.IntN.{ℤ, pos}
+use lib.IntN.{pos}
 use lib.ListN.{get_or}
 use lib.Pow.{pow_mono}
 use mir.Syntax.{w64}
-use borrow.Author.Rules.{rules}
 use Rattle.whole.proofs.Signed.{rd_ok}
 use Rattle.primitives.specs.Brev.{Brev}
 use Rattle.primitives.proofs.Reversal.{brev_lt}
@@ -78,8 +76,8 @@ turn c =
     let j = c.brev-j.result in
     let y = c.loop-b.t in
     elim c.if-i-j.branch [
-      then-i-j w ↦ w.t-is
-      ∙ rw (rd_ok w64 {z = get_or y i (pos 0)} w.x-1.given, rd_ok w64 {z = get_or y j (pos 0)} w.t-1.given) (sym (exchange_taken i j y w.if-i-j.true))
+      | then-i-j w ↦ w.t-is
+          ∙ rw (rd_ok w64 {z = get_or y i (pos 0)} w.x-1.given, rd_ok w64 {z = get_or y j (pos 0)} w.t-1.given) (sym (exchange_taken i j y w.if-i-j.true))
       | else-i-j w ↦ w.t-is ∙ sym (exchange_left i j y w.if-i-j.false)
     ]
 

@@ -1,10 +1,6 @@
 -- `flat::turn` meets its contract.
-use mathlib.Core.Path.{◌≡◌, sym, ap, ap₂, ◌∙◌}
-use Prim.Native.Nat.{◌^◌}
-use lib.IntN.{ℤ, ◌+ℤ◌, ◌-ℤ◌, ◌*ℤ◌}
 use mir.Syntax.{w64}
 use mir.Facts.{to_z-of_z}
-use borrow.Author.Rules.{rules}
 use Rattle.whole.proofs.Signed.{C, loc, ◌⊕◌, ◌⊖◌, ◌⊗◌, fits, value}
 use Rattle.flat.proofs.Three.{three_x, three_y}
 use Rattle.flat.proofs.turn.Goals as goal

@@ -1,11 +1,9 @@
 -- `flat_adst::iadst_fast4` meets its contract.
 use mathlib.Core.Path.{refl, sym, ap, ap₂, ◌∙◌, subst}
-use mathlib.Core.List.{List}
 use Prim.Native.Nat.{◌^◌}
 use lib.Dec.{lit≤}
-use lib.IntN.{ℤ, pos, ◌+ℤ◌, ◌-ℤ◌, ◌*ℤ◌}
+use lib.IntN.{ℤ, pos, ◌+ℤ◌, ◌-ℤ◌}
 use mir.Syntax.{w64}
-use borrow.Author.Rules.{rules}
 use Rattle.whole.specs.Round.{Round2}
 use Rattle.whole.proofs.Signed.{C, loc, lit, ◌⊕◌, ◌⊖◌, ◌⊗◌, val, code, rd_ok, fits, within, value}
 use Rattle.whole.specs.Within.{Within}

@@ -2,8 +2,6 @@
 use mathlib.Core.List.{List, [], ◌∷◌}
 use Prim.Native.Nat.{ℕ}
 use lib.Dec.{lit≤}
-use lib.Bits.{bit_xor}
-use borrow.Author.Rules.{rules}
 use Rattle.whole.specs.Lists.{fill, move}
 use Rattle.steps.specs.Step.{step}
 use Rattle.adst.specs.Adst.{adst_in}

@@ -1,10 +1,10 @@
 -- `flat_dct::dct_level2` meets its contract: its calls are the steps, one after the other.
 use mathlib.Core.Path.{◌≡◌, refl, sym, ap, ◌∙◌, subst}
-use mathlib.Core.Bool.{true, false}
+use mathlib.Core.Bool.{false}
 use mathlib.Core.List.{List, [], ◌∷◌}
 use Prim.Native.Nat.{ℕ, ◌^◌}
 use lib.Dec.{lit<}
-use lib.IntN.{ℤ, pos}
+use lib.IntN.{pos}
 use Rattle.whole.specs.Steps.{run, each, when}
 use Rattle.whole.specs.Inner.{Ok}
 use Rattle.primitives.specs.Brev.{Brev}

@@ -1,12 +1,10 @@
-use mathlib.Core.Path.{◌≡◌, refl, sym, ap, ◌∙◌}
-use Prim.Native.Nat.{◌+◌, ◌*◌, ◌-◌, ◌^◌, ◌≤◌, ◌<◌}
+use mathlib.Core.Path.{refl, ap, ◌∙◌}
+use Prim.Native.Nat.{◌^◌, ◌<◌}
 use native.Mathlib.Omega.{arith}
 use borrow.Author.Rules.{rules}
 use lib.ListN.{length}
-use Rattle.whole.specs.Inner.{times}
 use Rattle.whole.proofs.Loops.{times_none, times_more, times_done}
-use Rattle.answers.specs.Sizes.{side, area}
-use Rattle.blocks.specs.Inner.{change_line}
+use Rattle.answers.specs.Sizes.{side}
 use Rattle.blocks.proofs.Blocks.{columns_loop}
 use Rattle.blocks.proofs.Lines.{change_line_length}
 use Rattle.blocks.proofs.Places.{in_column}

@@ -1,17 +1,10 @@
-use mathlib.Core.Path.{◌≡◌, refl, sym, ap, ◌∙◌}
-use Prim.Native.Nat.{◌+◌, ◌*◌, ◌-◌, ◌^◌, ◌≤◌, ◌<◌}
-use native.Mathlib.Omega.{arith}
-use borrow.Author.Rules.{rules}
+use mathlib.Core.Path.{◌≡◌}
+use Prim.Native.Nat.{◌-◌, ◌≤◌}
 use lib.ListN.{length}
 use Rattle.whole.specs.Inner.{times}
-use Rattle.whole.proofs.Loops.{times_none, times_more, times_done}
-use Rattle.answers.specs.Sizes.{side, area}
+use Rattle.answers.specs.Sizes.{side}
 use Rattle.blocks.specs.Inner.{change_line}
-use Rattle.blocks.proofs.Blocks.{columns_loop}
-use Rattle.blocks.proofs.Lines.{change_line_length}
-use Rattle.blocks.proofs.Places.{in_column}
 use Rattle.fwd_dct.specs.Inner.{line_of}
-use Rattle.fwd_dct.proofs.Passes.{column_kept}
 use Rattle.fwd_dct.proofs.columns.Given as goal
 
 -- after j lines

@@ -1,12 +1,10 @@
-use mathlib.Core.Path.{◌≡◌, refl, sym, ap, ◌∙◌}
-use Prim.Native.Nat.{ℕ, ◌+◌, ◌-◌, ◌*◌, ◌≤◌, ◌<◌}
+use mathlib.Core.Path.{ap}
+use Prim.Native.Nat.{◌+◌, ◌-◌, ◌*◌, ◌<◌}
 use native.Mathlib.Omega.{arith}
 use borrow.Author.Rules.{rules}
-use lib.IntN.{ℤ, pos, ◌+ℤ◌, ◌-ℤ◌}
-use lib.ListN.{length, get_or, set}
+use lib.IntN.{ℤ}
+use lib.ListN.{length, set}
 use mir.Syntax.{w64}
-use mir.Facts.{to_z-of_z}
-use Rattle.whole.specs.Lists.{fill}
 use Rattle.whole.proofs.Signed.{loc, ◌⊕◌, ◌⊖◌, fits, value}
 use Rattle.whole.proofs.Lists.{fill_none, fill_more, fill_done}
 use Rattle.fwd_dct.proofs.fold.Goals as goal

@@ -1,14 +1,8 @@
-use mathlib.Core.Path.{◌≡◌, refl, sym, ap, ◌∙◌}
-use Prim.Native.Nat.{ℕ, ◌+◌, ◌-◌, ◌*◌, ◌≤◌, ◌<◌}
-use native.Mathlib.Omega.{arith}
-use borrow.Author.Rules.{rules}
-use lib.IntN.{ℤ, pos, ◌+ℤ◌, ◌-ℤ◌}
-use lib.ListN.{length, get_or, set}
-use mir.Syntax.{w64}
-use mir.Facts.{to_z-of_z}
+use mathlib.Core.Path.{◌≡◌}
+use Prim.Native.Nat.{◌+◌, ◌-◌, ◌*◌, ◌≤◌}
+use lib.IntN.{pos, ◌+ℤ◌, ◌-ℤ◌}
+use lib.ListN.{get_or}
 use Rattle.whole.specs.Lists.{fill}
-use Rattle.whole.proofs.Signed.{loc, ◌⊕◌, ◌⊖◌, fits, value}
-use Rattle.whole.proofs.Lists.{fill_none, fill_more, fill_done}
 use Rattle.fwd_dct.proofs.fold.Given as goal
 
 abbrev pub invariant-loop-i : goal.invariant-loop-i

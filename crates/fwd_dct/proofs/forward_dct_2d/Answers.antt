@@ -1,11 +1,7 @@
-use mathlib.Core.Path.{◌≡◌, refl, sym, ap, ◌∙◌}
-use Prim.Native.Nat.{ℕ}
-use native.Mathlib.Omega.{arith}
-use borrow.Author.Rules.{rules}
-use Rattle.answers.specs.Sizes.{side, area}
+use mathlib.Core.Path.{◌≡◌, sym, ◌∙◌}
+use Rattle.answers.specs.Sizes.{area}
 use Rattle.blocks.specs.Block.{rows, columns}
 use Rattle.fwd_dct.specs.Forward.{Input, answer_of}
-use Rattle.fwd_dct.specs.Inner.{line_of}
 use Rattle.fwd_dct.proofs.Answers.{refused, sized, room, range, middle_room, middle_range, last_room, last_range, in_steps}
 use Rattle.fwd_dct.proofs.forward_dct_2d.Goals as goal
 use Rattle.fwd_dct.proofs.forward_dct_2d.Goals.{Else-code-ne0}

@@ -1,14 +1,12 @@
-use mathlib.Core.Path.{◌≡◌, refl, sym, ap, ◌∙◌}
-use Prim.Native.Nat.{ℕ, ◌+◌, ◌-◌, ◌*◌, ◌≤◌, ◌<◌}
+use mathlib.Core.Path.{◌≡◌, refl, ap, ◌∙◌}
 use mathlib.Core.List.{List}
 use native.Mathlib.Nat as NatL
 use native.Mathlib.Omega.{arith}
 use borrow.Author.Rules.{rules}
 use lib.IntN.{ℤ, pos}
-use lib.ListN.{length, length-set, get_or}
+use lib.ListN.{length-set, get_or}
 use mir.Syntax.{w64}
 use mir.Facts.{to_z-of_z}
-use Rattle.whole.specs.Lists.{fill}
 use Rattle.whole.specs.Round.{Round2}
 use Rattle.whole.proofs.Lists.{fill_none, fill_more, fill_done, fill_rest}
 use Rattle.fwd_dct.proofs.round_all.Goals as goal

@@ -1,16 +1,9 @@
-use mathlib.Core.Path.{◌≡◌, refl, sym, ap, ◌∙◌}
-use Prim.Native.Nat.{ℕ, ◌+◌, ◌-◌, ◌*◌, ◌≤◌, ◌<◌}
-use mathlib.Core.List.{List}
-use native.Mathlib.Nat as NatL
-use native.Mathlib.Omega.{arith}
-use borrow.Author.Rules.{rules}
-use lib.IntN.{ℤ, pos}
-use lib.ListN.{length, length-set, get_or}
-use mir.Syntax.{w64}
-use mir.Facts.{to_z-of_z}
+use mathlib.Core.Path.{◌≡◌}
+use Prim.Native.Nat.{◌-◌, ◌≤◌}
+use lib.IntN.{pos}
+use lib.ListN.{length, get_or}
 use Rattle.whole.specs.Lists.{fill}
 use Rattle.whole.specs.Round.{Round2}
-use Rattle.whole.proofs.Lists.{fill_none, fill_more, fill_done, fill_rest}
 use Rattle.fwd_dct.proofs.round_all.Given as goal
 
 abbrev pub invariant-loop-k : goal.invariant-loop-k

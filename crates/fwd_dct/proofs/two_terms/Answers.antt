@@ -1,11 +1,10 @@
-use mathlib.Core.Path.{◌≡◌, refl, sym, ap, ap₂, ◌∙◌}
+use mathlib.Core.Path.{◌≡◌, ap, ap₂, ◌∙◌}
 use Prim.Native.Nat.{ℕ, ◌+◌, ◌^◌}
 use native.Mathlib.Omega.{arith}
 use mir.Syntax.{w64}
 use lib.IntN.{ℤ, pos, ◌+ℤ◌, ◌*ℤ◌}
 use lib.ListN.{get_or}
 use Rattle.whole.proofs.Signed.{loc, ◌⊕◌, ◌⊗◌, fits, value, within}
-use borrow.Author.Rules.{rules}
 use Rattle.fwd_dct.proofs.two_terms.Goals as goal
 
 pub overflow_mul-result : goal.overflow_mul-result

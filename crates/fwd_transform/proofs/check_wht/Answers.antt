@@ -1,5 +1,4 @@
 use mathlib.Core.Path.{sym, ◌∙◌}
-use borrow.Author.Rules.{rules}
 use borrow.Author.Tests.{ne_eqb}
 use Rattle.fwd_transform.specs.ForwardWht.{wht_answer}
 use Rattle.fwd_transform.proofs.check_wht.Goals as goal

@@ -1,6 +1,5 @@
 use mathlib.Core.Path.{◌≡◌, sym, ◌∙◌}
 use native.Mathlib.Omega.{arith}
-use borrow.Author.Rules.{rules}
 use Rattle.blocks.proofs.Blocks.{columns_length}
 use Rattle.answers.specs.Limits.{WHT_LIMIT}
 use Rattle.wht.specs.Wht.{wht}

@@ -1,6 +1,5 @@
 use mathlib.Core.Path.{◌≡◌, sym, ◌∙◌}
 use native.Mathlib.Omega.{arith}
-use borrow.Author.Rules.{rules}
 use Rattle.answers.specs.Answers.{number}
 use Rattle.fwd_transform.specs.Quantize.{Input, rule_answer}
 use Rattle.fwd_transform.proofs.Quantizer.{refused, done, known, unknown, known_rest, fine}

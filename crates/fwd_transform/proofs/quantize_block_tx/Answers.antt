@@ -1,4 +1,3 @@
-use borrow.Author.Rules.{rules}
 use Rattle.fwd_transform.specs.Quantize.{bad_rule}
 use Rattle.fwd_transform.proofs.quantize_block_tx.Goals as goal
 

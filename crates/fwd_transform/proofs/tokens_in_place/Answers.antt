@@ -1,12 +1,9 @@
 use mathlib.Core.Path.{◌≡◌, refl, ap, ◌∙◌}
-use Prim.Native.Nat.{◌-◌, ◌≤◌}
 use native.Mathlib.Omega.{arith}
-use borrow.Author.Rules.{rules}
 use lib.IntN.{pos}
-use lib.ListN.{length, get_or, set, length-set}
+use lib.ListN.{get_or, set, length-set}
 use mir.Syntax.{w64}
 use mir.ValLaws.{to_z-of_z}
-use Rattle.whole.specs.Lists.{fill}
 use Rattle.whole.proofs.Signed.{rd, rd_ok}
 use Rattle.whole.proofs.Lists.{fill_none, fill_more}
 use Rattle.answers.specs.Limits.{codeable}

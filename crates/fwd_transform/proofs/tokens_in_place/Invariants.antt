@@ -1,18 +1,8 @@
-use mathlib.Core.Path.{◌≡◌, refl, ap, ◌∙◌}
+use mathlib.Core.Path.{◌≡◌}
 use Prim.Native.Nat.{◌-◌, ◌≤◌}
-use native.Mathlib.Omega.{arith}
-use borrow.Author.Rules.{rules}
-use lib.IntN.{pos}
-use lib.ListN.{length, get_or, set, length-set}
-use mir.Syntax.{w64}
-use mir.ValLaws.{to_z-of_z}
+use lib.ListN.{length}
 use Rattle.whole.specs.Lists.{fill}
-use Rattle.whole.proofs.Signed.{rd, rd_ok}
-use Rattle.whole.proofs.Lists.{fill_none, fill_more}
-use Rattle.answers.specs.Limits.{codeable}
-use Rattle.answers.proofs.Passed.{codeable_most}
-use Rattle.fwd_transform.specs.Quantize.{Input, token_at}
-use Rattle.fwd_transform.proofs.Quantizer.{turn, filled}
+use Rattle.fwd_transform.specs.Quantize.{token_at}
 use Rattle.fwd_transform.proofs.tokens_in_place.Given as goal
 
 -- after k turns

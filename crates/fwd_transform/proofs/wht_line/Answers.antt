@@ -1,6 +1,5 @@
 use mathlib.Core.Path.{◌∙◌}
 use native.Mathlib.Omega.{arith}
-use borrow.Author.Rules.{rules}
 use Rattle.blocks.specs.Block.{line}
 use Rattle.blocks.specs.Inner.{change_line}
 use Rattle.fwd_transform.proofs.wht_line.Goals as goal

@@ -1,15 +1,9 @@
-use mathlib.Core.Path.{◌≡◌, ap, ◌∙◌}
+use mathlib.Core.Path.{◌≡◌}
 use Prim.Native.Nat.{◌*◌, ◌-◌, ◌≤◌}
-use native.Mathlib.Omega.{arith}
-use borrow.Author.Rules.{rules}
 use lib.ListN.{length}
 use Rattle.whole.specs.Inner.{times}
-use Rattle.whole.proofs.Loops.{times_none, times_more, times_done}
 use Rattle.blocks.specs.Inner.{change_line}
-use Rattle.blocks.proofs.Blocks.{rows_loop}
-use Rattle.blocks.proofs.Lines.{change_line_length}
 use Rattle.wht.specs.Wht.{wht}
-use Rattle.fwd_transform.proofs.Wht.{row_fine}
 use Rattle.fwd_transform.proofs.wht_rows.Given as goal
 
 -- after i rows

@@ -1,4 +1,3 @@
-use borrow.Author.Rules.{rules}
 use Rattle.idct.proofs.inverse_transform_2d.Goals as goal
 
 pub returns : goal.returns

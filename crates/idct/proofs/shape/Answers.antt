@@ -7,7 +7,6 @@ use borrow.Author.Tests.{lt-ltb, le-ltb}
 use Rattle.answers.specs.Bad.{bad_side, bad_lossless, bad_tx_type}
 use Rattle.answers.proofs.Passed.{side_range}
 use Rattle.idct.specs.Inner.{shape_of}
-use borrow.Author.Rules.{rules}
 use Rattle.idct.proofs.shape.Goals as goal
 use Rattle.idct.proofs.shape.Goals.{Else-bad_lossless, Else-bad_side, Else-bad_tx_type}
 

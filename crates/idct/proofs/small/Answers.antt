@@ -1,5 +1,4 @@
 use mathlib.Core.Path.{◌≡◌, sym, ◌∙◌}
-use borrow.Author.Rules.{rules}
 use lib.ListN.{length}
 use Rattle.idct.specs.Driver.{Input}
 use Rattle.idct.specs.Inner.{shape_of}

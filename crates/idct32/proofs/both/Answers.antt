@@ -1,12 +1,10 @@
 use mathlib.Core.Path.{◌≡◌, refl, sym, ap, subst, ◌∙◌}
 use mathlib.Core.Bool.{false}
 use native.Mathlib.Omega.{arith}
-use borrow.Author.Rules.{rules}
 use Prim.Native.Nat.{ℕ, ◌*◌, ◌/◌, ◌≤◌}
 use lib.ListN.{length}
 use Rattle.answers.specs.Sizes.{side, area}
 use Rattle.blocks.specs.Block.{rows}
-use Rattle.blocks.specs.Inner.{Possible}
 use Rattle.blocks.specs.Inverse.{apply, row_pass, column_pass}
 use Rattle.blocks.proofs.Passes.{row_valid, column_valid, adst_side}
 use Rattle.narrow.specs.Tile.{raster}

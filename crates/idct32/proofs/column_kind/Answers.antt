@@ -1,6 +1,5 @@
 -- `idct32::column_kind` meets its contract.
-use mathlib.Core.Path.{◌≡◌, sym, ◌∙◌}
-use borrow.Author.Rules.{rules}
+use mathlib.Core.Path.{sym, ◌∙◌}
 use Rattle.idct32.proofs.column_kind.Goals as goal
 
 pub returns-then-lossless : goal.returns-then-lossless

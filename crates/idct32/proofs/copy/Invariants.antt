@@ -1,14 +1,8 @@
-use mir.Syntax.{w16, w64}
-use mir.Facts.{to_z-of_z}
 use mathlib.Core.Path.{◌≡◌}
 use Prim.Native.Nat.{◌≤◌, ◌-◌}
-use native.Mathlib.Omega.{arith}
-use borrow.Author.Rules.{rules}
 use lib.IntN.{pos}
 use lib.ListN.{get_or}
 use Rattle.whole.specs.Lists.{fill}
-use Rattle.whole.proofs.Lists.{fill_none, fill_more, fill_done}
-use Rattle.idct32.proofs.Scan.{shorts_at}
 use Rattle.idct32.proofs.copy.Given as goal
 
 abbrev pub invariant-loop-k : goal.invariant-loop-k

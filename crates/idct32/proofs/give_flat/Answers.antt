@@ -1,11 +1,9 @@
 -- `idct32::give_flat` meets its contract.
 use mathlib.Core.Path.{◌≡◌, ap, ◌∙◌}
-use Prim.Native.Nat.{ℕ, ◌≤◌}
-use borrow.Author.Rules.{rules}
 use lib.Dec.{lit<}
 use lib.IntN.{ℤ}
 use mir.Facts.{to_z-of_z}
-use mir.Syntax.{w16, w32, w64}
+use mir.Syntax.{w32, w64}
 use Rattle.whole.specs.Lists.{fill}
 use Rattle.whole.proofs.Signed.{rd, rd_ok}
 use Rattle.whole.proofs.Within.{back}

@@ -1,13 +1,11 @@
 use mir.Syntax.{w16, w32, w64}
 use mir.Facts.{to_z-of_z}
-use mathlib.Core.Path.{◌≡◌, sym, ap, ◌∙◌}
-use Prim.Native.Nat.{◌≤◌, ◌<◌, ◌-◌, ◌+◌}
+use mathlib.Core.Path.{◌≡◌, ap, ◌∙◌}
 use native.Mathlib.Omega.{arith}
 use borrow.Author.Rules.{rules}
 use lib.Dec.{lit<}
 use lib.IntN.{ℤ, pos}
-use lib.ListN.{length, length-set, get_or}
-use Rattle.whole.specs.Lists.{fill}
+use lib.ListN.{length-set, get_or}
 use Rattle.whole.specs.Round.{Round2}
 use Rattle.whole.proofs.Lists.{fill_none, fill_more, fill_done}
 use Rattle.whole.proofs.Within.{back}

@@ -2,7 +2,7 @@
 use mathlib.Core.Path.{sym}
 use native.Mathlib.Omega.{arith}
 use borrow.Author.Tests.{lt-ltb, le-ltb}
-use lib.IntN.{ℤ, pos, negsuc, nat_abs}
+use lib.IntN.{pos, negsuc, nat_abs}
 use mir.Facts.{to_z-of_z}
 use Rattle.whole.proofs.Parts.{lt_z_true, lt_z_false, apart, abs_parts}
 use Rattle.answers.specs.Limits.{COEF_LIMIT}

@@ -1,7 +1,5 @@
 -- `idct32::is_flat` meets its contract.
-use mathlib.Core.Path.{◌≡◌, sym, ◌∙◌}
-use native.Mathlib.Omega.{arith}
-use borrow.Author.Rules.{rules}
+use mathlib.Core.Path.{sym, ◌∙◌}
 use borrow.Author.Tests.{eqb-true}
 use Rattle.idct32.proofs.Scan.{never}
 use Rattle.idct32.proofs.is_flat.Goals as goal

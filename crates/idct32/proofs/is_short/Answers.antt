@@ -1,5 +1,5 @@
 use native.Mathlib.Omega.{arith}
-use lib.IntN.{ℤ, pos, negsuc}
+use lib.IntN.{pos, negsuc}
 use mir.Facts.{to_z-of_z}
 use mathlib.Core.Path.{sym}
 use Rattle.whole.proofs.Parts.{lt_z_true, lt_z_false, apart}

@@ -3,16 +3,14 @@ use mathlib.Core.Path.{◌≡◌, sym, ap, subst, ◌∙◌}
 use mathlib.Core.Bool.{Bool, true, false}
 use Prim.Native.Nat.{◌≤◌}
 use native.Mathlib.Omega.{arith}
-use borrow.Author.Rules.{rules}
-use borrow.Author.Tests.{not-true, not-false}
 use lib.ListN.{length}
 use Rattle.answers.specs.Sizes.{side, area}
 use Rattle.blocks.specs.Block.{rows, columns}
 use Rattle.blocks.specs.Inner.{Possible}
-use Rattle.blocks.specs.Inverse.{apply, row_pass, column_pass}
+use Rattle.blocks.specs.Inverse.{apply, row_pass}
 use Rattle.blocks.proofs.Blocks.{rows_length}
 use Rattle.weights.specs.Inner.{total}
-use Rattle.idct32.specs.Engine.{kept_rows, kept_columns, within16}
+use Rattle.idct32.specs.Engine.{kept_rows, within16}
 use Rattle.idct32.proofs.Scan.{never}
 use Rattle.idct32.proofs.Work.{area_most}
 use Rattle.idct32.proofs.Small.{small_within16}

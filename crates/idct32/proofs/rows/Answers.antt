@@ -1,6 +1,5 @@
 -- `idct32::rows` meets its contract.
-use mathlib.Core.Path.{◌≡◌, sym, subst}
-use borrow.Author.Rules.{rules}
+use mathlib.Core.Path.{sym, subst}
 use Rattle.blocks.specs.Inverse.{Pass}
 use Rattle.blocks.proofs.Passes.{Valid, row_valid}
 use Rattle.tested.specs.Line.{pass_of}

@@ -1,6 +1,5 @@
 use Prim.Native.Nat.{◌-◌}
 use native.Mathlib.Omega.{arith}
-use borrow.Author.Rules.{rules}
 use Rattle.lines.proofs.Negative.{neg_fits, less_fits}
 use Rattle.lines.proofs.with_sign.Goals as goal
 

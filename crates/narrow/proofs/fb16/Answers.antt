@@ -1,9 +1,7 @@
 -- `narrow::fb16` meets its contract.
 use mathlib.Core.Path.{◌≡◌, ◌∙◌}
-use lib.IntN.{ℤ}
 use mir.Syntax.{w32}
 use mir.Facts.{to_z-of_z}
-use borrow.Author.Rules.{rules}
 use Rattle.whole.specs.Round.{Round2}
 use Rattle.whole.proofs.Signed.{rd, rd_ok}
 use Rattle.narrow.specs.Inner.{spin_x, spin_y, spin_fits, spin}

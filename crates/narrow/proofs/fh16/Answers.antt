@@ -1,4 +1,3 @@
-use mathlib.Core.Path.{◌≡◌}
 use Rattle.primitives.specs.Rotations.{apply_h}
 use Rattle.steps.specs.Step.{step}
 use Rattle.narrow.specs.Inner.{fits}

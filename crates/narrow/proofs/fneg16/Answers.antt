@@ -1,14 +1,10 @@
-use mathlib.Core.Path.{◌≡◌, refl, sym, ap, ◌∙◌}
-use mathlib.Core.Bool.{true}
-use lib.IntN.{ℤ, pos, neg_ℤ}
+use mathlib.Core.Path.{◌≡◌, ap, ◌∙◌}
+use lib.IntN.{pos, neg_ℤ}
 use lib.ListN.{get_or}
 use mir.Syntax.{w32}
 use mir.Facts.{to_z-of_z}
-use borrow.Author.Rules.{rules}
-use borrow.Author.Tests.{not-true, not-false}
 use Rattle.whole.proofs.Signed.{C, loc, minus, code, fits as room, value}
 use Rattle.steps.specs.Step.{step}
-use Rattle.narrow.specs.Kept.{short}
 use Rattle.narrow.specs.Inner.{fits}
 use Rattle.narrow.proofs.Short.{short_fits}
 use Rattle.narrow.proofs.Locals.{read}

@@ -1,5 +1,4 @@
 use mir.Facts.{to_z-of_z}
-use borrow.Author.Rules.{rules}
 use Rattle.primitives.specs.Rotations.{set_pair}
 use Rattle.narrow.proofs.Short.{pair_fits}
 use Rattle.narrow.proofs.put16.Goals as goal

@@ -1,9 +1,6 @@
-use mathlib.Core.Path.{◌∙◌, ap}
-use lib.IntN.{ℤ, pos}
-use lib.Signed.{shr_z}
+use lib.IntN.{pos}
 use mir.Syntax.{w32}
 use mir.Facts.{to_z-of_z}
-use borrow.Author.Rules.{rules}
 use Rattle.whole.specs.Round.{Round2}
 use Rattle.whole.proofs.Signed.{C, loc, lit, ◌⊕◌, fits, value}
 use Rattle.whole.proofs.Within.{sfits_shr}

@@ -2,7 +2,6 @@ use mathlib.Core.Path.{◌≡◌, ap₂, ◌∙◌}
 use lib.IntN.{ℤ, pos, ◌+ℤ◌, ◌-ℤ◌}
 use lib.ListN.{get_or}
 use mir.Syntax.{w32}
-use borrow.Author.Rules.{rules}
 use Rattle.whole.proofs.Signed.{C, loc, ◌⊕◌, ◌⊖◌, code, fits as room, value}
 use Rattle.primitives.specs.Rotations.{apply_h, set_pair}
 use Rattle.steps.specs.Step.{step}

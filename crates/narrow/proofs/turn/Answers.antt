@@ -3,7 +3,6 @@ use mathlib.Core.Path.{◌≡◌, ap₂, subst, ◌∙◌}
 use lib.IntN.{ℤ, pos, ◌+ℤ◌, ◌-ℤ◌, ◌*ℤ◌}
 use lib.ListN.{get_or}
 use mir.Syntax.{w32}
-use borrow.Author.Rules.{rules}
 use Rattle.whole.specs.Within.{Within}
 use Rattle.whole.proofs.Signed.{C, loc, ◌⊕◌, ◌⊖◌, ◌⊗◌, code, fits, value, within}
 use Rattle.narrow.specs.Inner.{spin_x, spin_y}

@@ -1,7 +1,6 @@
 use mathlib.Core.Path.{refl}
 use lib.Dec.{lit<}
-use mir.Syntax.{w16, w32}
-use mir.Val.{SFits}
+use mir.Syntax.{w32}
 use mir.Facts.{to_z-of_z}
 use Rattle.whole.proofs.Within.{back, within_sfits}
 use Rattle.narrow.proofs.Short.{fits_within}

@@ -3,7 +3,6 @@ use mathlib.Core.Path.{◌≡◌, refl, sym, ap, ◌∙◌, subst}
 use mathlib.Core.List.{List, [], ◌∷◌}
 use Prim.Native.Nat.{ℕ}
 use lib.Dec.{lit<}
-use borrow.Author.Rules.{rules}
 use Rattle.whole.specs.Inner.{Ok}
 use Rattle.whole.specs.Steps.{run, each}
 use Rattle.steps.specs.Step.{A4}

@@ -1,15 +1,13 @@
 -- `narrow_adst::permute` meets its contract: after a groups of k and b turns more, k a + b places are filled.
 use mathlib.Core.Path.{◌≡◌, sym, ap, ◌∙◌}
-use mathlib.Core.List.{List}
-use Prim.Native.Nat.{ℕ, ◌+◌, ◌-◌, ◌*◌, ◌^◌, ◌≤◌, ◌<◌}
+use Prim.Native.Nat.{ℕ, ◌+◌, ◌*◌, ◌^◌, ◌<◌}
 use native.Mathlib.Nat as NatL
 use native.Mathlib.Omega.{arith}
-use lib.IntN.{ℤ, pos}
+use lib.IntN.{pos}
 use lib.ListN.{get_or}
 use lib.Pow.{pow_mono}
 use mir.Syntax.{w16}
-use borrow.Author.Rules.{rules}
-use Rattle.whole.specs.Lists.{fill, move}
+use Rattle.whole.specs.Lists.{move}
 use Rattle.whole.proofs.Lists.{fill_none, fill_more}
 use Rattle.whole.proofs.Signed.{rd_ok}
 use Rattle.steps.specs.Step.{step}

@@ -1,18 +1,8 @@
-use mathlib.Core.Path.{◌≡◌, sym, ap, ◌∙◌}
-use mathlib.Core.List.{List}
-use Prim.Native.Nat.{ℕ, ◌+◌, ◌-◌, ◌*◌, ◌^◌, ◌≤◌, ◌<◌}
-use native.Mathlib.Nat as NatL
-use native.Mathlib.Omega.{arith}
-use lib.IntN.{ℤ, pos}
+use mathlib.Core.Path.{◌≡◌}
+use Prim.Native.Nat.{◌+◌, ◌-◌, ◌*◌, ◌≤◌}
+use lib.IntN.{pos}
 use lib.ListN.{get_or}
-use lib.Pow.{pow_mono}
-use mir.Syntax.{w16}
-use borrow.Author.Rules.{rules}
-use Rattle.whole.specs.Lists.{fill, move}
-use Rattle.whole.proofs.Lists.{fill_none, fill_more}
-use Rattle.whole.proofs.Signed.{rd_ok}
-use Rattle.steps.specs.Step.{step}
-use Rattle.flat.proofs.Exchange.{inside, group}
+use Rattle.whole.specs.Lists.{fill}
 use Rattle.narrow_adst.specs.Inner.{order}
 use Rattle.narrow_adst.proofs.permute.Given as goal
 

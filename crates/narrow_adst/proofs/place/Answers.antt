@@ -1,6 +1,4 @@
 -- `narrow_adst::place` meets its contract.
-use mathlib.Core.Path.{◌≡◌}
-use borrow.Author.Rules.{rules}
 use Rattle.narrow_adst.proofs.place.Goals as goal
 
 pub returns-then-out : goal.returns-then-out

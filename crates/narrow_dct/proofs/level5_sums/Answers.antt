@@ -4,7 +4,6 @@ use mathlib.Core.Bool.{false}
 use mathlib.Core.List.{List, [], ◌∷◌}
 use Prim.Native.Nat.{ℕ}
 use lib.Dec.{lit<}
-use borrow.Author.Rules.{rules}
 use Rattle.whole.specs.Inner.{Ok}
 use Rattle.whole.specs.Steps.{run, each}
 use Rattle.steps.specs.Step.{Step, Hd, A4, step}

@@ -1,18 +1,9 @@
-use mathlib.Core.Path.{◌≡◌, sym, ap, ◌∙◌}
+use mathlib.Core.Path.{◌≡◌}
 use mathlib.Core.List.{List}
-use mathlib.Core.Logic.{⊎_elim}
-use Prim.Native.Nat.{ℕ, ◌+◌, ◌-◌, ◌*◌, ◌^◌, ◌≤◌, ◌<◌}
-use native.Mathlib.Nat as NatL
-use native.Mathlib.Omega.{arith}
-use lib.IntN.{ℤ, pos}
-use lib.ListN.{get_or}
-use lib.Pow.{pow_mono}
-use mir.Syntax.{w16}
-use borrow.Author.Rules.{rules}
-use Rattle.whole.proofs.Signed.{rd_ok}
+use Prim.Native.Nat.{◌+◌, ◌-◌, ◌*◌, ◌≤◌}
+use lib.IntN.{ℤ}
 use Rattle.primitives.specs.Brev.{Brev}
-use Rattle.primitives.proofs.Reversal.{brev_lt}
-use Rattle.flat.proofs.Exchange.{exchange, exchanges, exchanges_none, exchanges_more, exchange_taken, exchange_left, reversed, inside, group}
+use Rattle.flat.proofs.Exchange.{exchanges}
 use Rattle.narrow_dct.proofs.permute.Given as goal
 
 abbrev pub invariant-loop-b : goal.invariant-loop-b

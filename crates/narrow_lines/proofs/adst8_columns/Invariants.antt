@@ -1,19 +1,8 @@
-use mathlib.Core.Path.{◌≡◌, refl}
 use mathlib.Core.Bool.{true}
-use mathlib.Core.List.{[], ◌∷◌}
-use Prim.Native.Nat.{ℕ, ◌+◌, ◌*◌, ◌-◌, ◌≤◌, ◌<◌}
-use native.Mathlib.Omega.{arith}
-use lib.Dec.{lit<, lit≤}
-use borrow.Author.Rules.{rules}
-use Rattle.steps.specs.Step.{Move, step}
-use Rattle.adst.specs.Adst.{adst_in}
-use Rattle.blocks.specs.Inverse.{Adst, apply}
-use Rattle.flat.proofs.Straight.{call, next, alone}
+use Prim.Native.Nat.{◌*◌, ◌-◌, ◌≤◌}
+use Rattle.blocks.specs.Inverse.{Adst}
 use Rattle.narrow.specs.Tile.{raster}
-use Rattle.narrow_adst.specs.Inner.{last8, pieces8}
-use Rattle.narrow_adst.proofs.Rows.{Called, cut8, adst_begin, adst_end, call_T, next_T}
 use Rattle.narrow_lines.specs.Inner.{Holds, strip}
-use Rattle.narrow_lines.proofs.Strips.{strip_none, strip_done, strip_fine, strip_next}
 use Rattle.narrow_lines.proofs.adst8_columns.Given as goal
 
 abbrev pub invariant-loop-j : goal.invariant-loop-j

@@ -1,11 +1,10 @@
 -- `narrow_lines::adst8_rows` meets its contract: the calls of a turn are the pieces of the transform, and a turn is one line.
-use mathlib.Core.Path.{◌≡◌, refl}
+use mathlib.Core.Path.{refl}
 use mathlib.Core.Bool.{false}
 use mathlib.Core.List.{[], ◌∷◌}
-use Prim.Native.Nat.{ℕ, ◌+◌, ◌*◌, ◌-◌, ◌≤◌, ◌<◌}
+use Prim.Native.Nat.{ℕ, ◌*◌}
 use native.Mathlib.Omega.{arith}
 use lib.Dec.{lit<, lit≤}
-use borrow.Author.Rules.{rules}
 use Rattle.steps.specs.Step.{Move, step}
 use Rattle.adst.specs.Adst.{adst_in}
 use Rattle.blocks.specs.Inverse.{Adst, apply}
@@ -13,7 +12,6 @@ use Rattle.flat.proofs.Straight.{call, next, alone}
 use Rattle.narrow.specs.Tile.{raster}
 use Rattle.narrow_adst.specs.Inner.{last8, pieces8}
 use Rattle.narrow_adst.proofs.Rows.{Called, cut8, adst_begin, adst_end, call_T, next_T}
-use Rattle.narrow_lines.specs.Inner.{Holds, strip}
 use Rattle.narrow_lines.proofs.Strips.{strip_none, strip_done, strip_fine, strip_next}
 use Rattle.narrow_lines.proofs.adst8_rows.Lts as lts
 use Rattle.narrow_lines.proofs.adst8_rows.Tie as tie

@@ -2,7 +2,6 @@
 use mathlib.Core.Path.{◌≡◌, ap, ◌∙◌}
 use Prim.Native.Nat.{ℕ, ◌*◌, ◌/◌}
 use native.Mathlib.Omega.{arith}
-use borrow.Author.Rules.{rules}
 use Rattle.answers.specs.Sizes.{side}
 use Rattle.blocks.specs.Inverse.{lossy}
 use Rattle.narrow_lines.proofs.Strips.{all_eights, columns_done}

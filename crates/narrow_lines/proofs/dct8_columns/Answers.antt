@@ -1,18 +1,16 @@
 -- `narrow_lines::dct8_columns` meets its contract: the calls of a turn are the pieces of the transform, and a turn is one line.
-use mathlib.Core.Path.{◌≡◌, refl}
+use mathlib.Core.Path.{refl}
 use mathlib.Core.Bool.{true}
 use mathlib.Core.List.{[]}
-use Prim.Native.Nat.{ℕ, ◌+◌, ◌*◌, ◌-◌, ◌≤◌, ◌<◌}
+use Prim.Native.Nat.{ℕ, ◌*◌}
 use native.Mathlib.Omega.{arith}
 use lib.Dec.{lit<, lit≤}
-use borrow.Author.Rules.{rules}
 use Rattle.steps.specs.Step.{step}
 use Rattle.blocks.specs.Inverse.{Dct, apply}
 use Rattle.flat.proofs.Straight.{call, next, alone}
 use Rattle.narrow.specs.Tile.{raster}
 use Rattle.narrow_dct.specs.Inner.{pieces8}
 use Rattle.narrow_dct.proofs.Rows.{Called, cut8, dct_begin, dct_end}
-use Rattle.narrow_lines.specs.Inner.{Holds, strip}
 use Rattle.narrow_lines.proofs.Strips.{strip_none, strip_done, strip_fine, strip_next}
 use Rattle.narrow_lines.proofs.dct8_columns.Lts as lts
 use Rattle.narrow_lines.proofs.dct8_columns.Tie as tie

@@ -1,7 +1,7 @@
 -- `narrow_lines::eight` meets its contract.
 use mathlib.Core.Path.{◌≡◌, subst}
 use mathlib.Core.Bool.{Bool}
-use Prim.Native.Nat.{ℕ, ◌*◌}
+use Prim.Native.Nat.{◌*◌}
 use Rattle.answers.specs.Sizes.{side}
 use Rattle.blocks.specs.Inverse.{lossy}
 use Rattle.narrow.specs.Tile.{raster}

@@ -1,7 +1,7 @@
 -- `narrow_lines::eight_rows` meets its contract.
 use mathlib.Core.Path.{◌≡◌}
 use mathlib.Core.Bool.{true, false}
-use Prim.Native.Nat.{ℕ, ◌*◌}
+use Prim.Native.Nat.{◌*◌}
 use native.Mathlib.Omega.{arith}
 use Rattle.narrow_lines.proofs.Strips.{into, out_of}
 use Rattle.narrow_lines.proofs.eight_rows.Goals as goal

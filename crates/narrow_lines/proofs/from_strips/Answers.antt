@@ -1,16 +1,9 @@
 -- `narrow_lines::from_strips` meets its contract: after i rows and q turns more, the numbers below n0 i + 8 q stand in their places.
 use mathlib.Core.Path.{◌≡◌}
-use mathlib.Core.List.{List}
-use Prim.Native.Nat.{ℕ, ◌+◌, ◌*◌, ◌/◌, ◌-◌, ◌≤◌, ◌<◌}
+use Prim.Native.Nat.{◌+◌, ◌*◌, ◌/◌, ◌≤◌}
 use native.Mathlib.Nat.{mul-zero, mul-add, mul-one}
 use native.Mathlib.Omega.{arith}
-use lib.IntN.{ℤ, pos}
-use lib.ListN.{get_or}
-use borrow.Author.Rules.{rules}
-use Rattle.whole.specs.Lists.{fill}
 use Rattle.whole.proofs.Lists.{fill_none}
-use Rattle.answers.specs.Sizes.{side}
-use Rattle.narrow.specs.Tile.{raster}
 use Rattle.narrow_lines.proofs.Strips.{all_eights}
 use Rattle.narrow_lines.proofs.Orders.{octet_lt, back_next}
 use Rattle.narrow_lines.proofs.from_strips.Goals as goal

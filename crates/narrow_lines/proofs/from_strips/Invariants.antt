@@ -1,17 +1,10 @@
 use mathlib.Core.Path.{◌≡◌}
 use mathlib.Core.List.{List}
-use Prim.Native.Nat.{ℕ, ◌+◌, ◌*◌, ◌/◌, ◌-◌, ◌≤◌, ◌<◌}
-use native.Mathlib.Nat.{mul-zero, mul-add, mul-one}
-use native.Mathlib.Omega.{arith}
+use Prim.Native.Nat.{◌+◌, ◌*◌, ◌-◌, ◌≤◌}
 use lib.IntN.{ℤ, pos}
 use lib.ListN.{get_or}
-use borrow.Author.Rules.{rules}
 use Rattle.whole.specs.Lists.{fill}
-use Rattle.whole.proofs.Lists.{fill_none}
-use Rattle.answers.specs.Sizes.{side}
 use Rattle.narrow.specs.Tile.{raster}
-use Rattle.narrow_lines.proofs.Strips.{all_eights}
-use Rattle.narrow_lines.proofs.Orders.{octet_lt, back_next}
 use Rattle.narrow_lines.proofs.from_strips.Given as goal
 
 abbrev pub invariant-loop-q : goal.invariant-loop-q

@@ -1,13 +1,9 @@
 -- `narrow_lines::lines` meets its contract.
-use mathlib.Core.Path.{◌≡◌}
-use Prim.Native.Nat.{ℕ, ◌+◌, ◌*◌, ◌-◌, ◌≤◌, ◌<◌}
+use Prim.Native.Nat.{◌+◌, ◌*◌, ◌≤◌}
 use native.Mathlib.Omega.{arith}
-use borrow.Author.Rules.{rules}
 use Rattle.answers.specs.Sizes.{side}
 use Rattle.blocks.specs.Inverse.{lossy}
-use Rattle.blocks.proofs.Inverse.{side_most}
 use Rattle.narrow.specs.Tile.{raster}
-use Rattle.narrow_lines.specs.Inner.{Holds, first}
 use Rattle.narrow_lines.proofs.Strips.{first_none, first_keeps, first_next, first_done}
 use Rattle.narrow_lines.proofs.lines.Goals as goal
 

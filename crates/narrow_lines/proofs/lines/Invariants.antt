@@ -1,13 +1,8 @@
-use mathlib.Core.Path.{◌≡◌}
-use Prim.Native.Nat.{ℕ, ◌+◌, ◌*◌, ◌-◌, ◌≤◌, ◌<◌}
-use native.Mathlib.Omega.{arith}
-use borrow.Author.Rules.{rules}
+use Prim.Native.Nat.{◌*◌, ◌-◌, ◌≤◌}
 use Rattle.answers.specs.Sizes.{side}
 use Rattle.blocks.specs.Inverse.{lossy}
-use Rattle.blocks.proofs.Inverse.{side_most}
 use Rattle.narrow.specs.Tile.{raster}
 use Rattle.narrow_lines.specs.Inner.{Holds, first}
-use Rattle.narrow_lines.proofs.Strips.{first_none, first_keeps, first_next, first_done}
 use Rattle.narrow_lines.proofs.lines.Given as goal
 
 abbrev pub invariant-loop-q : goal.invariant-loop-q

@@ -1,18 +1,11 @@
-use mathlib.Core.Path.{◌≡◌, ap}
+use mathlib.Core.Path.{◌≡◌}
 use mathlib.Core.List.{List}
-use Prim.Native.Nat.{ℕ, ◌≤◌, ◌<◌, ◌-◌, ◌+◌, ◌*◌, ◌/◌}
-use native.Mathlib.Omega.{arith}
+use Prim.Native.Nat.{◌≤◌, ◌-◌, ◌+◌, ◌*◌}
 use lib.IntN.{ℤ, pos}
 use lib.ListN.{get_or}
-use mir.Syntax.{w16}
-use mir.Facts.{to_z-of_z}
-use borrow.Author.Rules.{rules}
 use Rattle.whole.specs.Lists.{fill}
-use Rattle.whole.proofs.Lists.{fill_none, fill_more}
-use Rattle.blocks.specs.Block.{line}
 use Rattle.narrow.specs.Tile.{raster}
-use Rattle.narrow_lines.specs.Inner.{start, gap, spot}
-use Rattle.narrow_lines.proofs.Tiles.{spot_lt, spot_at}
+use Rattle.narrow_lines.specs.Inner.{start, gap}
 use Rattle.narrow_lines.proofs.load.Given as goal
 
 abbrev pub invariant-loop-b : goal.invariant-loop-b

@@ -1,13 +1,8 @@
 use mathlib.Core.Path.{◌≡◌}
 use Prim.Native.Nat.{◌≤◌, ◌-◌, ◌+◌}
-use native.Mathlib.Omega.{arith}
 use lib.IntN.{pos}
 use lib.ListN.{get_or, set}
-use mir.Syntax.{w16}
-use mir.Facts.{to_z-of_z}
-use borrow.Author.Rules.{rules}
 use Rattle.whole.specs.Inner.{times}
-use Rattle.whole.proofs.Loops.{loops, times_more}
 use Rattle.narrow_lines.proofs.move_eight.Given as goal
 
 abbrev pub invariant-loop-c : goal.invariant-loop-c

@@ -1,9 +1,8 @@
 -- `narrow_lines::place` meets its contract.
-use mathlib.Core.Path.{◌≡◌, refl}
-use Prim.Native.Nat.{ℕ, ◌*◌, ◌/◌, ◌≤◌}
+use mathlib.Core.Path.{refl}
+use Prim.Native.Nat.{◌*◌, ◌/◌, ◌≤◌}
 use native.Mathlib.Nat.{mul-le-mul}
 use native.Mathlib.Omega.{arith}
-use borrow.Author.Rules.{rules}
 use Rattle.narrow.specs.Tile.{place}
 use Rattle.narrow_lines.proofs.place.Goals as goal
 use Rattle.narrow_lines.proofs.place.Goals.{Start}

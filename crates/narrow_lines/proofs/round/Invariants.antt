@@ -1,22 +1,10 @@
-use mathlib.Core.Path.{◌≡◌, ap, ◌∙◌}
-use mathlib.Core.Bool.{false}
-use mathlib.Core.List.{List}
-use Prim.Native.Nat.{ℕ, ◌+◌, ◌-◌, ◌≤◌, ◌<◌}
-use native.Mathlib.Nat.{le_refl}
-use native.Mathlib.Omega.{arith}
-use lib.Dec.{lit≤}
-use lib.IntN.{ℤ, pos}
-use lib.ListN.{get_or, set}
-use mir.Syntax.{w16}
-use mir.ValLaws.{to_z-of_z}
-use borrow.Author.Rules.{rules}
+use mathlib.Core.Path.{◌≡◌}
+use Prim.Native.Nat.{◌-◌, ◌≤◌}
+use lib.IntN.{pos}
+use lib.ListN.{get_or}
 use Rattle.whole.specs.Lists.{fill}
 use Rattle.whole.specs.Round.{Round2}
-use Rattle.whole.proofs.Lists.{fill_none, fill_more, fill_done, fill_rest}
-use Rattle.whole.proofs.Signed.{rd_ok}
-use Rattle.answers.specs.Sizes.{area}
-use Rattle.dct.proofs.Dct.{two_to_five}
-use Rattle.blocks.specs.Inverse.{bits, rounding}
+use Rattle.blocks.specs.Inverse.{bits}
 use Rattle.narrow_lines.proofs.round.Given as goal
 
 abbrev pub invariant-loop-k : goal.invariant-loop-k

@@ -1,5 +1,4 @@
 -- `narrow_lines::rows` meets its contract.
-use mathlib.Core.Path.{◌≡◌}
 use native.Mathlib.Omega.{arith}
 use Rattle.blocks.specs.Inverse.{lossy}
 use Rattle.blocks.proofs.Inverse.{side_most}

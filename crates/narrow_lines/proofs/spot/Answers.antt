@@ -1,6 +1,4 @@
 -- `narrow_lines::spot` meets its contract.
-use mathlib.Core.Path.{◌≡◌}
-use borrow.Author.Rules.{rules}
 use Rattle.narrow_lines.proofs.spot.Goals as goal
 
 pub returns-then-down : goal.returns-then-down

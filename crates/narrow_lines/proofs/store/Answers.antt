@@ -1,17 +1,16 @@
 -- `narrow_lines::store` meets its contract: after a eights and b turns more, the first 8 a + b numbers of T stand in the line.
 use mathlib.Core.Path.{◌≡◌, refl, subst}
 use mathlib.Core.List.{List}
-use Prim.Native.Nat.{ℕ, ◌≤◌, ◌<◌, ◌-◌, ◌+◌, ◌*◌, ◌/◌}
+use Prim.Native.Nat.{ℕ, ◌<◌, ◌+◌, ◌*◌}
 use native.Mathlib.Omega.{arith}
 use lib.IntN.{ℤ, pos}
 use lib.ListN.{get_or}
 use mir.Syntax.{w16}
 use mir.Facts.{to_z-of_z}
-use borrow.Author.Rules.{rules}
 use Rattle.whole.specs.Inner.{times}
 use Rattle.blocks.specs.Inner.{set_line}
 use Rattle.narrow.specs.Tile.{raster}
-use Rattle.narrow_lines.specs.Inner.{start, gap, Holds}
+use Rattle.narrow_lines.specs.Inner.{Holds}
 use Rattle.narrow_lines.proofs.Tiles.{spot_lt, store_next}
 use Rattle.narrow_lines.proofs.store.Goals as goal
 use Rattle.narrow_lines.proofs.store.Goals.{After-spot, In-loop-b}

@@ -1,17 +1,9 @@
-use mathlib.Core.Path.{◌≡◌, refl, subst}
 use mathlib.Core.List.{List}
-use Prim.Native.Nat.{ℕ, ◌≤◌, ◌<◌, ◌-◌, ◌+◌, ◌*◌, ◌/◌}
-use native.Mathlib.Omega.{arith}
-use lib.IntN.{ℤ, pos}
-use lib.ListN.{get_or}
-use mir.Syntax.{w16}
-use mir.Facts.{to_z-of_z}
-use borrow.Author.Rules.{rules}
-use Rattle.whole.specs.Inner.{times}
+use Prim.Native.Nat.{◌≤◌, ◌-◌, ◌+◌, ◌*◌}
+use lib.IntN.{ℤ}
 use Rattle.blocks.specs.Inner.{set_line}
 use Rattle.narrow.specs.Tile.{raster}
 use Rattle.narrow_lines.specs.Inner.{start, gap, Holds}
-use Rattle.narrow_lines.proofs.Tiles.{spot_lt, store_next}
 use Rattle.narrow_lines.proofs.store.Given as goal
 
 abbrev pub invariant-loop-b : goal.invariant-loop-b

@@ -1,17 +1,12 @@
 -- `narrow_lines::to_strips` meets its contract: after q strips and i turns more, the numbers below 8 (n0 q + i) stand in their places.
 use mathlib.Core.Path.{◌≡◌, sym, ap, ◌∙◌}
-use mathlib.Core.List.{List}
-use Prim.Native.Nat.{ℕ, ◌+◌, ◌*◌, ◌/◌, ◌-◌, ◌≤◌, ◌<◌}
+use Prim.Native.Nat.{◌+◌, ◌*◌, ◌/◌, ◌≤◌}
 use native.Mathlib.Nat.{mul-zero, mul-add, mul-one, add-zero, mul-le-mul}
 use native.Mathlib.Omega.{arith}
-use lib.IntN.{ℤ, pos}
-use lib.ListN.{length, get_or}
-use borrow.Author.Rules.{rules}
-use Rattle.whole.specs.Lists.{fill}
+use lib.ListN.{length}
 use Rattle.whole.proofs.Lists.{fill_none, length_fill}
-use Rattle.answers.specs.Sizes.{side}
 use Rattle.narrow_lines.proofs.Strips.{all_eights}
-use Rattle.narrow_lines.proofs.Orders.{source, octet_lt, to_next, to_done}
+use Rattle.narrow_lines.proofs.Orders.{octet_lt, to_next, to_done}
 use Rattle.narrow_lines.proofs.to_strips.Goals as goal
 use Rattle.narrow_lines.proofs.to_strips.Goals.{After-move_eight-arg-1}
 

@@ -1,16 +1,10 @@
-use mathlib.Core.Path.{◌≡◌, sym, ap, ◌∙◌}
+use mathlib.Core.Path.{◌≡◌}
 use mathlib.Core.List.{List}
-use Prim.Native.Nat.{ℕ, ◌+◌, ◌*◌, ◌/◌, ◌-◌, ◌≤◌, ◌<◌}
-use native.Mathlib.Nat.{mul-zero, mul-add, mul-one, add-zero, mul-le-mul}
-use native.Mathlib.Omega.{arith}
+use Prim.Native.Nat.{◌+◌, ◌*◌, ◌-◌, ◌≤◌}
 use lib.IntN.{ℤ, pos}
-use lib.ListN.{length, get_or}
-use borrow.Author.Rules.{rules}
+use lib.ListN.{get_or}
 use Rattle.whole.specs.Lists.{fill}
-use Rattle.whole.proofs.Lists.{fill_none, length_fill}
-use Rattle.answers.specs.Sizes.{side}
-use Rattle.narrow_lines.proofs.Strips.{all_eights}
-use Rattle.narrow_lines.proofs.Orders.{source, octet_lt, to_next, to_done}
+use Rattle.narrow_lines.proofs.Orders.{source}
 use Rattle.narrow_lines.proofs.to_strips.Given as goal
 
 abbrev pub invariant-loop-i : goal.invariant-loop-i

@@ -1,5 +1,4 @@
 use mathlib.Core.Path.{◌≡◌, sym, ap, ◌∙◌}
-use Prim.Native.Nat.{◌+◌, ◌*◌, ◌-◌, ◌≤◌}
 use native.Mathlib.Nat.{le_antisymm}
 use native.Mathlib.Omega.{arith}
 use borrow.Author.Rules.{rules}
@@ -7,7 +6,6 @@ use lib.IntN.{pos, nat_abs}
 use lib.ListN.{get_or}
 use mir.Syntax.{w16}
 use mir.Facts.{to_z-of_z}
-use Rattle.weights.specs.Inner.{total}
 use Rattle.weights.proofs.Sums.{total_none, total_more}
 use Rattle.narrow_lines.proofs.total.Goals as goal
 

@@ -1,6 +1,5 @@
 use mathlib.Core.Path.{◌≡◌, refl}
 use native.Mathlib.Omega.{arith}
-use borrow.Author.Rules.{rules}
 use Rattle.passes.proofs.both_passes.Goals as goal
 use Rattle.passes.proofs.both_passes.Goals.{In-3, In-4, In_default}
 

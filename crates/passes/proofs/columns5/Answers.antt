@@ -1,11 +1,9 @@
-use Prim.Native.Nat.{◌-◌}
 use native.Mathlib.Omega.{arith}
-use borrow.Author.Rules.{rules}
 use Rattle.whole.specs.Round.{Round2}
 use Rattle.blocks.specs.Block.{columns}
 use Rattle.blocks.specs.Inverse.{Dct, apply}
 use Rattle.blocks.specs.Inner.{Safe}
-use Rattle.blocks.proofs.Turns.{Job, columns_job, Turn, turn_none, turn_safe, turn_grown, turn_next, turn_done}
+use Rattle.blocks.proofs.Turns.{Job, columns_job, turn_none, turn_safe, turn_grown, turn_next, turn_done}
 use Rattle.passes.proofs.columns5.Goals as goal
 use Rattle.passes.proofs.columns5.Goals.{Start}
 

@@ -1,6 +1,5 @@
 use mathlib.Core.Path.{◌≡◌}
 use native.Mathlib.Omega.{arith}
-use borrow.Author.Rules.{rules}
 use lib.ListN.{length}
 use Rattle.blocks.specs.Block.{rows}
 use Rattle.blocks.specs.Inverse.{Dct, apply, rounding}

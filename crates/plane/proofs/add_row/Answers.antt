@@ -1,14 +1,12 @@
 -- `plane::add_row` meets its contract.
 use mathlib.Core.Path.{◌≡◌, refl}
-use Prim.Native.Nat.{ℕ, ◌+◌, ◌≤◌, ◌<◌, ◌-◌}
+use Prim.Native.Nat.{◌+◌}
 use native.Mathlib.Omega.{arith}
 use lib.Dec.{lit<}
 use lib.IntN.{pos}
-use lib.ListN.{length, get_or, length-set}
+use lib.ListN.{get_or, length-set}
 use mir.Syntax.{w64}
-use borrow.Author.Rules.{rules}
 use Rattle.whole.proofs.Within.{back}
-use Rattle.plane.specs.Inner.{row_after}
 use Rattle.plane.proofs.Row.{row_none, row_more}
 use Rattle.plane.proofs.add_row.Goals as goal
 

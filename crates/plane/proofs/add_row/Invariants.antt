@@ -1,14 +1,8 @@
-use mathlib.Core.Path.{◌≡◌, refl}
-use Prim.Native.Nat.{ℕ, ◌+◌, ◌≤◌, ◌<◌, ◌-◌}
-use native.Mathlib.Omega.{arith}
-use lib.Dec.{lit<}
+use mathlib.Core.Path.{◌≡◌}
+use Prim.Native.Nat.{ℕ, ◌+◌, ◌≤◌, ◌-◌}
 use lib.IntN.{pos}
-use lib.ListN.{length, get_or, length-set}
-use mir.Syntax.{w64}
-use borrow.Author.Rules.{rules}
-use Rattle.whole.proofs.Within.{back}
+use lib.ListN.{length, get_or}
 use Rattle.plane.specs.Inner.{row_after}
-use Rattle.plane.proofs.Row.{row_none, row_more}
 use Rattle.plane.proofs.add_row.Given as goal
 
 abbrev pub invariant-loop-j : goal.invariant-loop-j

@@ -1,13 +1,11 @@
 -- `plane::add_rows` meets its contract.
-use mathlib.Core.Path.{◌≡◌, refl, sym, ap, ◌∙◌}
-use Prim.Native.Nat.{ℕ, min, ◌+◌, ◌*◌, ◌≤◌, ◌<◌, ◌-◌}
+use mathlib.Core.Path.{◌≡◌, refl, ◌∙◌}
+use Prim.Native.Nat.{◌+◌, ◌*◌, ◌≤◌, ◌-◌}
 use native.Mathlib.Nat as NatL
 use native.Mathlib.Omega.{arith}
 use lib.IntN.{pos}
-use lib.ListN.{length, get_or}
-use borrow.Author.Rules.{rules}
-use Rattle.plane.specs.Place.{place_of, area_of, cut}
-use Rattle.plane.specs.Plane.{sample_after}
+use lib.ListN.{get_or}
+use Rattle.plane.specs.Place.{place_of, cut}
 use Rattle.plane.proofs.Block.{block_none, block_more, by_rows}
 use Rattle.plane.proofs.add_rows.Goals as goal
 

@@ -1,13 +1,9 @@
-use mathlib.Core.Path.{◌≡◌, refl, sym, ap, ◌∙◌}
-use Prim.Native.Nat.{ℕ, min, ◌+◌, ◌*◌, ◌≤◌, ◌<◌, ◌-◌}
-use native.Mathlib.Nat as NatL
-use native.Mathlib.Omega.{arith}
+use mathlib.Core.Path.{◌≡◌}
+use Prim.Native.Nat.{ℕ, ◌+◌, ◌*◌, ◌≤◌, ◌<◌, ◌-◌}
 use lib.IntN.{pos}
 use lib.ListN.{length, get_or}
-use borrow.Author.Rules.{rules}
-use Rattle.plane.specs.Place.{place_of, area_of, cut}
+use Rattle.plane.specs.Place.{place_of}
 use Rattle.plane.specs.Plane.{sample_after}
-use Rattle.plane.proofs.Block.{block_none, block_more, by_rows}
 use Rattle.plane.proofs.add_rows.Given as goal
 
 abbrev pub invariant-loop-i : goal.invariant-loop-i

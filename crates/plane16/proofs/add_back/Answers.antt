@@ -2,8 +2,6 @@
 use mathlib.Core.Path.{sym, ◌∙◌}
 use lib.IntN.{pos}
 use lib.ListN.{get_or}
-use Prim.Native.Nat.{◌+◌, ◌*◌}
-use borrow.Author.Rules.{rules}
 use Rattle.narrow.specs.Tile.{place}
 use Rattle.plane.proofs.Block.{no_column}
 use Rattle.plane16.proofs.add_back.Goals as goal

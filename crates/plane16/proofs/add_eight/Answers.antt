@@ -1,13 +1,11 @@
 -- `plane16::add_eight` meets its contract.
-use mathlib.Core.Path.{◌≡◌, refl, sym, ◌∙◌}
-use Prim.Native.Nat.{ℕ, ◌+◌, ◌-◌, ◌≤◌, ◌<◌}
+use mathlib.Core.Path.{◌≡◌, refl, ◌∙◌}
+use Prim.Native.Nat.{ℕ, ◌+◌}
 use native.Mathlib.Omega.{arith}
 use lib.IntN.{ℤ, pos, ◌+ℤ◌}
-use lib.ListN.{length, get_or, length-set, replicate}
-use borrow.Author.Rules.{rules}
+use lib.ListN.{get_or, length-set, replicate}
 use Rattle.whole.proofs.Lists.{fill_below}
 use Rattle.plane.specs.Plane.{clip}
-use Rattle.plane.specs.Inner.{row_after}
 use Rattle.plane.proofs.Row.{inside_high, row_out, row_none, row_more}
 use Rattle.plane16.proofs.add_eight.Goals as goal
 

@@ -1,13 +1,8 @@
-use mathlib.Core.Path.{◌≡◌, refl, sym, ◌∙◌}
-use Prim.Native.Nat.{ℕ, ◌+◌, ◌-◌, ◌≤◌, ◌<◌}
-use native.Mathlib.Omega.{arith}
-use lib.IntN.{ℤ, pos, ◌+ℤ◌}
-use lib.ListN.{length, get_or, length-set, replicate}
-use borrow.Author.Rules.{rules}
-use Rattle.whole.proofs.Lists.{fill_below}
-use Rattle.plane.specs.Plane.{clip}
+use mathlib.Core.Path.{◌≡◌}
+use Prim.Native.Nat.{ℕ, ◌+◌, ◌-◌, ◌≤◌}
+use lib.IntN.{pos}
+use lib.ListN.{length, get_or}
 use Rattle.plane.specs.Inner.{row_after}
-use Rattle.plane.proofs.Row.{inside_high, row_out, row_none, row_more}
 use Rattle.plane16.proofs.add_eight.Given as goal
 
 abbrev pub invariant-loop-j : goal.invariant-loop-j

@@ -1,16 +1,14 @@
 -- `plane16::add_rest` meets its contract.
 use mathlib.Core.Path.{◌≡◌, refl}
-use Prim.Native.Nat.{ℕ, ◌+◌, ◌≤◌, ◌<◌, ◌-◌}
+use Prim.Native.Nat.{◌+◌}
 use native.Mathlib.Omega.{arith}
 use lib.Dec.{lit<, lit≤}
 use lib.IntN.{pos}
-use lib.ListN.{length, get_or, length-set}
+use lib.ListN.{get_or, length-set}
 use mir.Syntax.{w16, w64}
 use mir.Val.{SFits}
 use mir.ValLaws.{to_z-of_z}
-use borrow.Author.Rules.{rules}
 use Rattle.whole.proofs.Within.{back, within_le, within_sfits}
-use Rattle.plane.specs.Inner.{row_after}
 use Rattle.plane.proofs.Row.{row_none, row_more}
 use Rattle.plane16.proofs.Ends.{short_within}
 use Rattle.plane16.proofs.add_rest.Goals as goal

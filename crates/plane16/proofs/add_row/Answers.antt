@@ -1,13 +1,11 @@
 -- `plane16::add_row` meets its contract.
-use mathlib.Core.Path.{◌≡◌, refl, sym, ap, ◌∙◌}
+use mathlib.Core.Path.{◌≡◌, refl, ap, ◌∙◌}
 use Prim.Native.Nat.{ℕ, ◌+◌, ◌-◌, ◌*◌, ◌/◌, ◌≤◌, ◌<◌}
-use native.Mathlib.Nat as NatL
 use native.Mathlib.Omega.{arith}
-use lib.IntN.{ℤ, pos}
-use lib.ListN.{length, get_or}
+use lib.IntN.{pos}
+use lib.ListN.{get_or}
 use borrow.Author.Rules.{rules}
 use Rattle.narrow.specs.Tile.{place}
-use Rattle.plane.specs.Inner.{row_after}
 use Rattle.plane.proofs.Row.{row_none}
 use Rattle.plane16.proofs.Ends.{row_join, place_strip, strip_end, strip_most}
 use Rattle.plane16.proofs.add_row.Goals as goal

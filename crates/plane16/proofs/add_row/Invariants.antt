@@ -1,14 +1,9 @@
-use mathlib.Core.Path.{◌≡◌, refl, sym, ap, ◌∙◌}
-use Prim.Native.Nat.{ℕ, ◌+◌, ◌-◌, ◌*◌, ◌/◌, ◌≤◌, ◌<◌}
-use native.Mathlib.Nat as NatL
-use native.Mathlib.Omega.{arith}
-use lib.IntN.{ℤ, pos}
+use mathlib.Core.Path.{◌≡◌}
+use Prim.Native.Nat.{ℕ, ◌-◌, ◌*◌, ◌≤◌}
+use lib.IntN.{pos}
 use lib.ListN.{length, get_or}
-use borrow.Author.Rules.{rules}
 use Rattle.narrow.specs.Tile.{place}
 use Rattle.plane.specs.Inner.{row_after}
-use Rattle.plane.proofs.Row.{row_none}
-use Rattle.plane16.proofs.Ends.{row_join, place_strip, strip_end, strip_most}
 use Rattle.plane16.proofs.add_row.Given as goal
 
 abbrev pub invariant-loop-q : goal.invariant-loop-q

@@ -1,15 +1,13 @@
 -- `plane16::add_rows` meets its contract.
-use mathlib.Core.Path.{◌≡◌, refl, sym, ap, ◌∙◌}
-use Prim.Native.Nat.{ℕ, min, ◌+◌, ◌*◌, ◌≤◌, ◌<◌, ◌-◌}
+use mathlib.Core.Path.{◌≡◌, refl, ◌∙◌}
+use Prim.Native.Nat.{◌+◌, ◌*◌, ◌≤◌, ◌<◌}
 use native.Mathlib.Nat as NatL
 use native.Mathlib.Omega.{arith}
 use lib.IntN.{pos}
-use lib.ListN.{length, get_or}
-use borrow.Author.Rules.{rules}
+use lib.ListN.{get_or}
 use Rattle.narrow.specs.Tile.{place}
 use Rattle.plane.specs.Place.{place_of, cut}
-use Rattle.plane.specs.Plane.{sample_after}
-use Rattle.plane.proofs.Block.{block_none, block_more, by_rows, no_column}
+use Rattle.plane.proofs.Block.{block_none, block_more, by_rows}
 use Rattle.plane16.proofs.add_rows.Goals as goal
 use Rattle.plane16.proofs.add_rows.Goals.{After-add_row-arg-1}
 

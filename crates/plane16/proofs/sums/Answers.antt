@@ -1,13 +1,11 @@
 -- `plane16::sums` meets its contract.
-use mathlib.Core.Path.{◌≡◌, ap, ◌∙◌}
-use Prim.Native.Nat.{ℕ, ◌+◌, ◌-◌, ◌≤◌, ◌<◌}
+use mathlib.Core.Path.{ap}
+use Prim.Native.Nat.{◌+◌}
 use native.Mathlib.Omega.{arith}
-use lib.IntN.{pos, ◌+ℤ◌}
-use lib.ListN.{get_or, set, replicate}
+use lib.IntN.{pos}
+use lib.ListN.{get_or, set}
 use mir.Syntax.{w16}
 use mir.ValLaws.{to_z-of_z}
-use borrow.Author.Rules.{rules}
-use Rattle.whole.specs.Lists.{fill}
 use Rattle.whole.proofs.Lists.{fill_none, fill_more, fill_done}
 use Rattle.plane.specs.Plane.{clip}
 use Rattle.plane16.proofs.sums.Goals as goal

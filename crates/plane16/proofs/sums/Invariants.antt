@@ -1,13 +1,8 @@
-use mathlib.Core.Path.{◌≡◌, ap, ◌∙◌}
-use Prim.Native.Nat.{ℕ, ◌+◌, ◌-◌, ◌≤◌, ◌<◌}
-use native.Mathlib.Omega.{arith}
+use mathlib.Core.Path.{◌≡◌}
+use Prim.Native.Nat.{◌+◌, ◌-◌, ◌≤◌}
 use lib.IntN.{pos, ◌+ℤ◌}
-use lib.ListN.{get_or, set, replicate}
-use mir.Syntax.{w16}
-use mir.ValLaws.{to_z-of_z}
-use borrow.Author.Rules.{rules}
+use lib.ListN.{get_or, replicate}
 use Rattle.whole.specs.Lists.{fill}
-use Rattle.whole.proofs.Lists.{fill_none, fill_more, fill_done}
 use Rattle.plane.specs.Plane.{clip}
 use Rattle.plane16.proofs.sums.Given as goal
 

@@ -1,9 +1,6 @@
-use mathlib.Core.Path.{◌≡◌, ap}
+use mathlib.Core.Path.{◌≡◌}
 use Prim.Native.Nat.{◌+◌, ◌-◌, ◌≤◌}
-use native.Mathlib.Omega.{arith}
-use borrow.Author.Rules.{rules}
 use Rattle.primitives.specs.Brev.{Brev}
-use Rattle.primitives.proofs.Reversal.{brev_turn, brev_fits, brev_end}
 use Rattle.primitives.proofs.brev.Given as goal
 
 abbrev pub invariant-loop-i : goal.invariant-loop-i

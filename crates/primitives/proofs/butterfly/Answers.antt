@@ -3,7 +3,6 @@ use mathlib.Core.Path.{◌∙◌}
 use lib.Dec.{lit<}
 use mir.Syntax.{w64}
 use mir.Facts.{to_z-of_z}
-use borrow.Author.Rules.{rules}
 use Rattle.whole.proofs.Signed.{rd_ok}
 use Rattle.whole.proofs.Within.{back}
 use Rattle.primitives.specs.Rotations.{apply_b, set_pair}

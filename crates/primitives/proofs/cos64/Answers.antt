@@ -3,7 +3,6 @@ use lib.Dec.{lit<}
 use lib.IntN.{neg_ℤ}
 use mir.Syntax.{w64}
 use mir.Facts.{to_z-of_z}
-use borrow.Author.Rules.{rules}
 use Rattle.primitives.proofs.Cosine.{cos_1, cos_2, cos_3, cos_4, cos_is}
 use Rattle.primitives.proofs.Out.{out, out_neg}
 use Rattle.whole.proofs.Parts.{zero_minus}

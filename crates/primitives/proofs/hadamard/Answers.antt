@@ -1,5 +1,4 @@
 use mir.Syntax.{w64}
-use borrow.Author.Rules.{rules}
 use Rattle.primitives.specs.Rotations.{apply_h}
 use Rattle.whole.proofs.Signed.{fits, value, ◌⊕◌, ◌⊖◌, loc}
 use Rattle.primitives.proofs.hadamard.Goals as goal

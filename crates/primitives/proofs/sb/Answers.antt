@@ -1,6 +1,5 @@
 use mir.Syntax.{w64}
 use mir.Facts.{to_z-of_z}
-use borrow.Author.Rules.{rules}
 use Rattle.primitives.specs.Rotations.{apply_sb, set_pair, turn_x, turn_y}
 use Rattle.whole.proofs.Signed.{fits, value, C, ◌⊕◌, ◌⊖◌, ◌⊗◌, loc}
 use Rattle.primitives.proofs.sb.Goals as goal

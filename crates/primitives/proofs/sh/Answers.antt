@@ -1,6 +1,5 @@
 use lib.Dec.{lit≤}
 use mir.Syntax.{w64}
-use borrow.Author.Rules.{rules}
 use Rattle.primitives.specs.Rotations.{apply_sh}
 use Rattle.whole.proofs.Signed.{bound, fits, rd_ok, value, ◌⊕◌, ◌⊖◌, loc}
 use Rattle.primitives.proofs.sh.Goals as goal

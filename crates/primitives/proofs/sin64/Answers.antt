@@ -5,7 +5,6 @@ use Rattle.primitives.proofs.Cosine.{sin_wrap}
 use Rattle.primitives.proofs.Out.{out}
 use Rattle.primitives.specs.Cosine.{Cos64}
 use Rattle.whole.proofs.Signed.{rd_ok}
-use borrow.Author.Rules.{rules}
 use Rattle.primitives.proofs.sin64.Goals as goal
 
 pub returns : goal.returns

@@ -1,5 +1,4 @@
 use mathlib.Core.Path.{◌∙◌}
-use borrow.Author.Rules.{rules}
 use mir.Syntax.{w64}
 use mir.ValLaws.{to_z-of_z}
 use Rattle.quant.proofs.Machine.{magnitude_is, minus_fits, minus_is, sign_minus, sign_plus}

@@ -1,7 +1,6 @@
 -- `reconstruct::add_4` meets its contract.
 use mathlib.Core.Path.{◌≡◌, refl, ◌∙◌}
 use native.Mathlib.Omega.{arith}
-use borrow.Author.Rules.{rules}
 use Rattle.plane.proofs.Block.{same_residuals}
 use Rattle.blocks.specs.Inverse.{inverse2d}
 use Rattle.blocks.proofs.Inverse.{inverse2d_length}

@@ -1,10 +1,9 @@
 -- `reconstruct::add_back4` meets its contract.
-use mathlib.Core.Path.{◌≡◌, refl, sym, ap, ◌∙◌}
-use Prim.Native.Nat.{ℕ, ◌+◌, ◌*◌, ◌<◌, ◌≤◌}
+use mathlib.Core.Path.{sym, ◌∙◌}
+use Prim.Native.Nat.{◌+◌, ◌*◌}
 use native.Mathlib.Omega.{arith}
 use lib.IntN.{pos}
-use lib.ListN.{length, get_or}
-use borrow.Author.Rules.{rules}
+use lib.ListN.{get_or}
 use Rattle.plane.proofs.Block.{same_residuals}
 use Rattle.reconstruct.proofs.Sixteen.{below_sixteen, few_length, few_at, few_within}
 use Rattle.reconstruct.proofs.add_back4.Goals as goal

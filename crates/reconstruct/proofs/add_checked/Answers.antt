@@ -2,10 +2,8 @@
 use mathlib.Core.Path.{◌≡◌, refl, sym, ◌∙◌}
 use mathlib.Core.Bool.{false}
 use native.Mathlib.Omega.{arith}
-use borrow.Author.Rules.{rules}
 use Rattle.answers.specs.Answers.{number}
-use Rattle.tokens.specs.Inner.{token_answer}
-use Rattle.reconstruct.specs.Inner.{Accepted, Checked}
+use Rattle.reconstruct.specs.Inner.{Accepted}
 use Rattle.reconstruct.proofs.Residual.{not_lossless, sized_taken, lossy_taken, lossy_added, same_added}
 use Rattle.reconstruct.proofs.Table.{taken}
 use Rattle.reconstruct.proofs.add_checked.Goals as goal

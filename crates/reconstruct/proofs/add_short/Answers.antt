@@ -1,9 +1,6 @@
 -- `reconstruct::add_short` meets its contract.
-use mathlib.Core.Path.{◌≡◌, ◌∙◌}
-use Prim.Native.Nat.{◌≤◌}
+use mathlib.Core.Path.{◌∙◌}
 use native.Mathlib.Omega.{arith}
-use borrow.Author.Rules.{rules}
-use borrow.Author.Tests.{not-false}
 use Rattle.residual16.specs.Inner.{Served}
 use Rattle.tokens.proofs.Sizes.{side_most}
 use Rattle.reconstruct.proofs.Residual.{short_added}

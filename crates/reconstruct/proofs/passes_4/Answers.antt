@@ -1,6 +1,5 @@
 -- `reconstruct::passes_4` meets its contract.
 use mathlib.Core.Path.{refl, ◌∙◌}
-use borrow.Author.Rules.{rules}
 use Rattle.reconstruct.proofs.Residual.{as_lossless, as_lossy}
 use Rattle.reconstruct.proofs.passes_4.Goals as goal
 

@@ -1,6 +1,5 @@
 -- `reconstruct::quick` meets its contract.
 use mathlib.Core.Path.{refl}
-use borrow.Author.Rules.{rules}
 use Rattle.reconstruct.proofs.quick.Goals as goal
 
 pub add_short-requires : goal.add_short-requires

@@ -1,22 +1,21 @@
 -- `reconstruct::reconstruct_block` meets its contract.
-use mathlib.Core.Path.{◌≡◌, sym, ap, ◌∙◌}
+use mathlib.Core.Path.{◌≡◌, sym, ◌∙◌}
 use mathlib.Core.Bool.{Bool, true, false}
 use mathlib.Core.List.{List}
-use Prim.Native.Nat.{ℕ, ◌≤◌}
+use Prim.Native.Nat.{ℕ}
 use native.Mathlib.Decide.{ℕ_discrete}
 use native.Mathlib.Omega.{arith}
 use lib.ListN.{length}
-use borrow.Author.Rules.{rules}
 use Rattle.answers.specs.declared.Answer.{Answer}
 use Rattle.answers.specs.Answers.{number}
 use Rattle.residual16.specs.Inner.{Lent}
-use Rattle.tokens.specs.Inner.{SmallTokens, shape_of, token_answer}
+use Rattle.tokens.specs.Inner.{shape_of}
 use Rattle.tokens.proofs.Sizes.{dc_fine, ac_fine}
 use Rattle.tokens.proofs.Above.{small_fine}
 use Rattle.reconstruct.specs.Reconstruct.{Input, answer_of, largest, samples_after, Reconstructed}
 use Rattle.reconstruct.specs.Inner.{Sound, Checked, Quick, Tried}
 use Rattle.reconstruct.proofs.Residual.{not_lossless, lossy_added}
-use Rattle.reconstruct.proofs.Table.{Shaped, shaped, shape_stops, shape_passes, refused, done}
+use Rattle.reconstruct.proofs.Table.{shaped, shape_stops, shape_passes, refused, done}
 use Rattle.reconstruct.proofs.reconstruct_block.Goals as goal
 use Rattle.reconstruct.proofs.reconstruct_block.Lts as lts
 use Rattle.reconstruct.proofs.reconstruct_block.Tie as tie

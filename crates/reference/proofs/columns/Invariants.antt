@@ -1,11 +1,7 @@
 use mathlib.Core.Bool.{cond}
-use Prim.Native.Nat.{◌-◌, ◌^◌}
-use native.Mathlib.Omega.{arith}
-use borrow.Author.Rules.{rules}
-use Rattle.blocks.specs.Block.{columns}
-use Rattle.blocks.specs.Inverse.{Wht, apply, lossy, column_pass, rounding}
-use Rattle.blocks.proofs.Passes.{Valid, column_valid, adst_side}
-use Rattle.blocks.proofs.Turns.{Job, columns_job, Turn, turn_none, turn_inside, turn_safe, turn_grown, turn_next, turn_done}
+use Prim.Native.Nat.{◌-◌}
+use Rattle.blocks.specs.Inverse.{Wht, lossy, rounding}
+use Rattle.blocks.proofs.Turns.{Turn}
 use Rattle.reference.proofs.columns.Given as goal
 
 abbrev pub invariant-loop-j : goal.invariant-loop-j

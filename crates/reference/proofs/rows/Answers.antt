@@ -1,11 +1,10 @@
 use mathlib.Core.Bool.{cond}
-use Prim.Native.Nat.{◌*◌, ◌-◌, ◌^◌}
+use Prim.Native.Nat.{◌*◌, ◌^◌}
 use native.Mathlib.Omega.{arith}
-use borrow.Author.Rules.{rules}
 use Rattle.blocks.specs.Block.{rows}
 use Rattle.blocks.specs.Inverse.{Wht, apply, lossy, row_pass}
 use Rattle.blocks.proofs.Passes.{Valid, row_valid, adst_side}
-use Rattle.blocks.proofs.Turns.{Job, rows_job, Turn, turn_none, turn_inside, turn_safe, turn_next, turn_done}
+use Rattle.blocks.proofs.Turns.{Job, rows_job, turn_none, turn_inside, turn_safe, turn_next, turn_done}
 use Rattle.reference.proofs.rows.Goals as goal
 use Rattle.reference.proofs.rows.Goals.{After-row_dct-row_dct}
 

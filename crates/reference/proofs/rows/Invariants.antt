@@ -1,11 +1,7 @@
 use mathlib.Core.Bool.{cond}
-use Prim.Native.Nat.{◌*◌, ◌-◌, ◌^◌}
-use native.Mathlib.Omega.{arith}
-use borrow.Author.Rules.{rules}
-use Rattle.blocks.specs.Block.{rows}
-use Rattle.blocks.specs.Inverse.{Wht, apply, lossy, row_pass}
-use Rattle.blocks.proofs.Passes.{Valid, row_valid, adst_side}
-use Rattle.blocks.proofs.Turns.{Job, rows_job, Turn, turn_none, turn_inside, turn_safe, turn_next, turn_done}
+use Prim.Native.Nat.{◌*◌, ◌-◌}
+use Rattle.blocks.specs.Inverse.{Wht, lossy}
+use Rattle.blocks.proofs.Turns.{Turn}
 use Rattle.reference.proofs.rows.Given as goal
 
 abbrev pub invariant-loop-i : goal.invariant-loop-i

@@ -1,4 +1,3 @@
-use borrow.Author.Rules.{rules}
 use mir.Syntax.{w32, w64}
 use mir.Val.{to_z, of_z}
 use native.Mathlib.Omega.{arith}

@@ -1,5 +1,5 @@
 -- `residual16::dequantize` meets its contract.
-use Rattle.std.proofs.Common.{◌≡◌, ℕ, ◌+◌, ◌-◌, ◌*◌, ◌/◌, ◌<◌, ◌≤◌, false, List, length, get_or, replicate, ℤ, pos, sym, refl, ap, ◌∙◌, arith, rules, ne_eqb}
+use Rattle.std.proofs.Common.{◌≡◌, ℕ, ◌+◌, ◌*◌, ◌/◌, ◌<◌, ◌≤◌, false, List, length, get_or, replicate, ℤ, pos, sym, ap, ◌∙◌, arith, ne_eqb}
 use native.Mathlib.Nat as NatL
 use lib.ListN.{length-replicate}
 use Rattle.whole.specs.Lists.{fill}

@@ -1,11 +1,6 @@
 -- `residual16::dequantize_strip` meets its contract.
-use Rattle.std.proofs.Common.{◌≡◌, ℕ, ◌+◌, ◌-◌, ◌*◌, ◌<◌, ◌≤◌, length, get_or, replicate, ℤ, pos, sym, refl, ap, ◌∙◌, arith, pow_pos, rules, ne_eqb}
-use native.Mathlib.Nat as NatL
-use Rattle.whole.specs.Lists.{fill}
-use Rattle.answers.specs.Sizes.{side, area}
-use Rattle.quant.specs.declared.DcQuant.{DcQuant}
-use Rattle.quant.specs.Places.{quantizer_at}
-use Rattle.quant.specs.Token.{dequant}
+use Rattle.std.proofs.Common.{◌≡◌, ℕ, ◌+◌, ◌*◌, ◌<◌, ◌≤◌, length, replicate, pos, sym, ap, ◌∙◌, arith, pow_pos}
+use Rattle.answers.specs.Sizes.{side}
 use Rattle.residual16.specs.Inner.{tiled}
 use Rattle.residual16.proofs.Tiles.{eight_in, tile_in, not_first, fill_eight, tiled_ac, area_most}
 use Rattle.residual16.proofs.dequantize_strip.Goals as goal

@@ -1,8 +1,7 @@
 -- `residual16::eight` meets its contract.
-use Rattle.std.proofs.Common.{◌≡◌, ℕ, ◌+◌, ◌-◌, ◌<◌, ◌≤◌, length, get_or, set, ℤ, pos, sym, refl, ap, ◌∙◌, ⊎_elim, eq-or-lt_of_le, arith, length-set, get_or-set_other, get_or-set_same, w16, w64, rules}
+use Rattle.std.proofs.Common.{◌≡◌, ◌+◌, ◌<◌, get_or, pos, refl, ◌∙◌, ⊎_elim, eq-or-lt_of_le, arith, length-set, get_or-set_other, get_or-set_same, w16, w64}
 use mir.ValLaws.{to_z-of_z}
 use Rattle.whole.proofs.Signed.{rd_ok}
-use Rattle.quant.specs.Token.{dequant}
 use Rattle.residual16.proofs.eight.Goals as goal
 
 pub loop-j-preserved : goal.loop-j-preserved

@@ -1,6 +1,4 @@
-use Rattle.std.proofs.Common.{◌≡◌, ℕ, ◌+◌, ◌-◌, ◌<◌, ◌≤◌, length, get_or, set, ℤ, pos, sym, refl, ap, ◌∙◌, ⊎_elim, eq-or-lt_of_le, arith, length-set, get_or-set_other, get_or-set_same, w16, w64, rules}
-use mir.ValLaws.{to_z-of_z}
-use Rattle.whole.proofs.Signed.{rd_ok}
+use Rattle.std.proofs.Common.{◌≡◌, ℕ, ◌+◌, ◌-◌, ◌<◌, ◌≤◌, length, get_or, pos}
 use Rattle.quant.specs.Token.{dequant}
 use Rattle.residual16.proofs.eight.Given as goal
 

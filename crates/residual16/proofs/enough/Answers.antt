@@ -1,5 +1,5 @@
 -- `residual16::enough` meets its contract.
-use Rattle.std.proofs.Common.{◌≡◌, ◌+◌, refl, arith, rules, leb-true}
+use Rattle.std.proofs.Common.{◌+◌, arith, leb-true}
 use Rattle.residual16.proofs.Numbers.{never}
 use Rattle.residual16.proofs.enough.Goals as goal
 

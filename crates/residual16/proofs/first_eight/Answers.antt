@@ -1,5 +1,5 @@
 -- `residual16::first_eight` meets its contract.
-use Rattle.std.proofs.Common.{◌≡◌, ℕ, zero, suc, ◌+◌, ◌<◌, ◌≤◌, List, length, get_or, set, ℤ, pos, sym, refl, ap, ◌∙◌, arith, get_or-set_other, get_or-set_same, w16, w64, rules, ne_eqb}
+use Rattle.std.proofs.Common.{◌≡◌, ℕ, zero, suc, ◌+◌, ◌<◌, ◌≤◌, List, length, get_or, set, ℤ, pos, ◌∙◌, arith, get_or-set_other, get_or-set_same, w16, w64, ne_eqb}
 use mir.ValLaws.{to_z-of_z}
 use Rattle.whole.proofs.Signed.{rd_ok}
 use Rattle.quant.specs.declared.DcQuant.{DcQuant}

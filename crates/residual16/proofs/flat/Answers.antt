@@ -1,7 +1,6 @@
 -- `residual16::flat` meets its contract.
-use Rattle.std.proofs.Common.{◌≡◌, ℕ, ◌+◌, ◌-◌, ◌<◌, ◌≤◌, refl, arith, w16, to_z, rules}
+use Rattle.std.proofs.Common.{refl, arith, w16}
 use mir.ValLaws.{to_z-of_z}
-use Rattle.whole.specs.Lists.{fill}
 use Rattle.whole.proofs.Lists.{fill_none, fill_more, fill_done}
 use Rattle.residual16.proofs.flat.Goals as goal
 

@@ -1,5 +1,5 @@
 -- `residual16::passes` meets its contract.
-use Rattle.std.proofs.Common.{◌≡◌, ℕ, ◌+◌, ◌*◌, ◌/◌, ◌<◌, ◌≤◌, min, false, List, length, ℤ, sym, refl, ap, ◌∙◌, arith, rules}
+use Rattle.std.proofs.Common.{◌≡◌, ◌/◌, ◌≤◌, false, List, length, ℤ, refl, ap, ◌∙◌, arith}
 use Rattle.answers.specs.Sizes.{side, area}
 use Rattle.blocks.specs.Block.{rows, columns}
 use Rattle.blocks.specs.Inverse.{apply, row_pass, column_pass, rounding}

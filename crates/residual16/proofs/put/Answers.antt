@@ -1,7 +1,6 @@
 -- `residual16::put` meets its contract.
-use Rattle.std.proofs.Common.{◌≡◌, ℕ, ◌+◌, ◌-◌, ◌≤◌, get_or, set, pos, refl, ap, ◌∙◌, arith, w16, rules}
+use Rattle.std.proofs.Common.{◌+◌, get_or, set, pos, ap, arith, w16}
 use mir.ValLaws.{to_z-of_z}
-use Rattle.whole.specs.Inner.{times}
 use Rattle.whole.proofs.Loops.{times_none, times_more, times_done}
 use Rattle.residual16.proofs.put.Goals as goal
 

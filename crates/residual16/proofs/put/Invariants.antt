@@ -1,7 +1,5 @@
-use Rattle.std.proofs.Common.{◌≡◌, ℕ, ◌+◌, ◌-◌, ◌≤◌, get_or, set, pos, refl, ap, ◌∙◌, arith, w16, rules}
-use mir.ValLaws.{to_z-of_z}
+use Rattle.std.proofs.Common.{◌≡◌, ◌+◌, ◌-◌, ◌≤◌, get_or, set, pos}
 use Rattle.whole.specs.Inner.{times}
-use Rattle.whole.proofs.Loops.{times_none, times_more, times_done}
 use Rattle.residual16.proofs.put.Given as goal
 
 abbrev pub invariant-loop-j : goal.invariant-loop-j

@@ -1,16 +1,13 @@
 -- `residual16::residual` meets its contract.
-use Rattle.std.proofs.Common.{◌≡◌, ℕ, ◌+◌, ◌-◌, ◌*◌, ◌<◌, ◌≤◌, true, false, List, length, get_or, set, ℤ, pos, nat_abs, sym, refl, ap, ◌∙◌, arith, w16, w64, rules}
-use borrow.Author.Tests.{not-false}
+use Rattle.std.proofs.Common.{◌≡◌, ℕ, ◌+◌, ◌-◌, ◌*◌, ◌<◌, ◌≤◌, true, false, length, get_or, set, pos, nat_abs, ap, ◌∙◌, arith, w16, w64}
 use mir.ValLaws.{to_z-of_z}
 use Rattle.whole.proofs.Signed.{rd, rd_ok}
-use Rattle.answers.specs.Sizes.{side, area}
-use Rattle.quant.specs.Places.{quantizer_at, dequant_all}
+use Rattle.quant.specs.Places.{quantizer_at}
 use Rattle.quant.specs.Token.{dq_denom, dequant}
 use Rattle.blocks.proofs.Inverse.{side_most}
-use Rattle.narrow.specs.Tile.{raster}
 use Rattle.residual16.specs.Inner.{Scanned, Short, Lent}
 use Rattle.residual16.proofs.Numbers.{never}
-use Rattle.residual16.proofs.Block.{size_most, some, small, bounded, short, few_coefs, dead_all, served, served_flat}
+use Rattle.residual16.proofs.Block.{some, bounded, short, few_coefs, dead_all, served, served_flat}
 use Rattle.residual16.proofs.residual.Goals as goal
 use Rattle.residual16.proofs.residual.Goals.{After-magnitude-first, Else-not-enough, Start}
 

@@ -1,5 +1,5 @@
 -- `residual16::residual_dc` meets its contract.
-use Rattle.std.proofs.Common.{◌≡◌, ℕ, ◌+◌, ◌≤◌, get_or, ℤ, pos, ap, ◌∙◌, arith, lit<, lit≤, w16, w64, SFits, rules}
+use Rattle.std.proofs.Common.{◌≡◌, get_or, ℤ, pos, arith, lit<, lit≤, w16, w64, SFits}
 use mir.ValLaws.{to_z-of_z}
 use Rattle.whole.specs.Within.{Within}
 use Rattle.whole.proofs.Signed.{rd}

@@ -1,11 +1,11 @@
 -- `residual16::weigh` meets its contract.
-use Rattle.std.proofs.Common.{◌≡◌, ℕ, ◌+◌, ◌-◌, ◌*◌, ◌/◌, ◌<◌, ◌≤◌, List, length, get_or, ℤ, pos, sym, refl, ap, ◌∙◌, ⊎_elim, arith, rules}
+use Rattle.std.proofs.Common.{◌≡◌, ℕ, ◌+◌, ◌*◌, ◌/◌, ◌<◌, ◌≤◌, List, length, get_or, ℤ, pos, sym, ap, ◌∙◌, arith}
 use native.Mathlib.Decide.{dec_lt}
 use native.Mathlib.Nat as NatL
 use lib.ListN.{get_or-eq_default}
 use lib.Bits.{bit_or}
 use Rattle.answers.specs.Sizes.{side, area}
-use Rattle.residual16.specs.Inner.{Weighed, Scanned}
+use Rattle.residual16.specs.Inner.{Weighed}
 use Rattle.residual16.proofs.Sums.{weighed_none, weighed_join, dead_more}
 use Rattle.residual16.proofs.Tiles.{eights, side_least, whole_strips, strip_in}
 use Rattle.residual16.proofs.weigh.Goals as goal

@@ -1,12 +1,5 @@
-use Rattle.std.proofs.Common.{◌≡◌, ℕ, ◌+◌, ◌-◌, ◌*◌, ◌/◌, ◌<◌, ◌≤◌, List, length, get_or, ℤ, pos, sym, refl, ap, ◌∙◌, ⊎_elim, arith, rules}
-use native.Mathlib.Decide.{dec_lt}
-use native.Mathlib.Nat as NatL
-use lib.ListN.{get_or-eq_default}
-use lib.Bits.{bit_or}
-use Rattle.answers.specs.Sizes.{side, area}
-use Rattle.residual16.specs.Inner.{Weighed, Scanned}
-use Rattle.residual16.proofs.Sums.{weighed_none, weighed_join, dead_more}
-use Rattle.residual16.proofs.Tiles.{eights, side_least, whole_strips, strip_in}
+use Rattle.std.proofs.Common.{◌≡◌, ℕ, ◌-◌, ◌*◌, ◌/◌, ◌<◌, ◌≤◌, get_or, pos}
+use Rattle.residual16.specs.Inner.{Weighed}
 use Rattle.residual16.proofs.weigh.Given as goal
 
 abbrev pub invariant-loop-s : goal.invariant-loop-s

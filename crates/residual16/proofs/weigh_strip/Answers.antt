@@ -1,8 +1,7 @@
 -- `residual16::weigh_strip` meets its contract.
-use Rattle.std.proofs.Common.{◌≡◌, ℕ, ◌+◌, ◌-◌, ◌^◌, ◌<◌, ◌≤◌, get_or, pos, nat_abs, sym, refl, ap, ◌∙◌, arith, w64, SFits, rules}
+use Rattle.std.proofs.Common.{◌≡◌, ◌+◌, get_or, pos, arith, w64, SFits}
 use mir.ValLaws.{to_z-of_z}
 use Rattle.blocks.proofs.Near.{abs_most}
-use Rattle.residual16.specs.Inner.{Weighed}
 use Rattle.residual16.proofs.Sums.{weighed_none, weighed_one, weighed_join}
 use Rattle.residual16.proofs.weigh_strip.Goals as goal
 

@@ -1,8 +1,5 @@
-use Rattle.std.proofs.Common.{◌≡◌, ℕ, ◌+◌, ◌-◌, ◌^◌, ◌<◌, ◌≤◌, get_or, pos, nat_abs, sym, refl, ap, ◌∙◌, arith, w64, SFits, rules}
-use mir.ValLaws.{to_z-of_z}
-use Rattle.blocks.proofs.Near.{abs_most}
+use Rattle.std.proofs.Common.{◌-◌, ◌≤◌}
 use Rattle.residual16.specs.Inner.{Weighed}
-use Rattle.residual16.proofs.Sums.{weighed_none, weighed_one, weighed_join}
 use Rattle.residual16.proofs.weigh_strip.Given as goal
 
 abbrev pub invariant-loop-k : goal.invariant-loop-k

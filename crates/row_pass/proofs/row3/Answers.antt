@@ -1,6 +1,5 @@
 use mathlib.Core.Path.{refl}
 use native.Mathlib.Omega.{arith}
-use borrow.Author.Rules.{rules}
 use Rattle.blocks.specs.Inverse.{lossy}
 use Rattle.blocks.proofs.Passes.{small_valid}
 use Rattle.row_pass.proofs.Turn.{line_safe, row_made, row_clear}

@@ -1,12 +1,9 @@
 use mathlib.Core.Path.{sym, ◌∙◌}
-use mathlib.Core.Logic.{⊎_elim}
-use Prim.Native.Nat.{◌-◌}
 use native.Mathlib.Omega.{arith}
-use borrow.Author.Rules.{rules}
 use Rattle.blocks.specs.Inverse.{lossy}
 use Rattle.blocks.proofs.Passes.{small_valid}
 use Rattle.summary.specs.Summary.{is_set}
-use Rattle.row_pass.proofs.Turn.{RowTurn, Job, rows_job, row_none, turn_safe, row_next, row_skip, row_done}
+use Rattle.row_pass.proofs.Turn.{Job, rows_job, row_none, turn_safe, row_next, row_skip, row_done}
 use Rattle.row_pass.proofs.rows2.Goals as goal
 use Rattle.row_pass.proofs.rows2.Goals.{Start, else-is_set, then-is_set}
 

@@ -1,6 +1,5 @@
 use mathlib.Core.Path.{refl}
 use native.Mathlib.Omega.{arith}
-use borrow.Author.Rules.{rules}
 use Rattle.blocks.specs.Inverse.{Wht, apply}
 use Rattle.blocks.specs.Inner.{Safe}
 use Rattle.row_pass.proofs.Turn.{line_safe, row_made, row_clear}

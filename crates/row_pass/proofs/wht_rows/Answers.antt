@@ -1,11 +1,8 @@
 use mathlib.Core.Path.{refl, sym, ◌∙◌}
-use mathlib.Core.Logic.{⊎_elim}
-use Prim.Native.Nat.{◌-◌}
 use native.Mathlib.Omega.{arith}
-use borrow.Author.Rules.{rules}
 use Rattle.blocks.specs.Inverse.{Wht}
 use Rattle.summary.specs.Summary.{is_set}
-use Rattle.row_pass.proofs.Turn.{RowTurn, Job, rows_job, row_none, turn_safe, row_next, row_skip, row_done}
+use Rattle.row_pass.proofs.Turn.{Job, rows_job, row_none, turn_safe, row_next, row_skip, row_done}
 use Rattle.row_pass.proofs.wht_rows.Goals as goal
 use Rattle.row_pass.proofs.wht_rows.Goals.{Start, else-is_set, then-is_set}
 

@@ -1,11 +1,7 @@
-use mathlib.Core.Path.{refl, sym, ◌∙◌}
-use mathlib.Core.Logic.{⊎_elim}
 use Prim.Native.Nat.{◌-◌}
-use native.Mathlib.Omega.{arith}
-use borrow.Author.Rules.{rules}
 use Rattle.blocks.specs.Inverse.{Wht}
 use Rattle.summary.specs.Summary.{is_set}
-use Rattle.row_pass.proofs.Turn.{RowTurn, Job, rows_job, row_none, turn_safe, row_next, row_skip, row_done}
+use Rattle.row_pass.proofs.Turn.{RowTurn}
 use Rattle.row_pass.proofs.wht_rows.Given as goal
 
 abbrev pub invariant-loop-i : goal.invariant-loop-i

@@ -1,10 +1,9 @@
-use Prim.Native.Nat.{◌*◌, ◌-◌}
+use Prim.Native.Nat.{◌*◌}
 use native.Mathlib.Omega.{arith}
-use borrow.Author.Rules.{rules}
 use Rattle.blocks.specs.Block.{rows}
 use Rattle.blocks.specs.Inverse.{lossy, apply}
 use Rattle.blocks.proofs.Passes.{small_valid}
-use Rattle.blocks.proofs.Turns.{Job, rows_job, Turn, turn_none, turn_safe, turn_next, turn_done}
+use Rattle.blocks.proofs.Turns.{Job, rows_job, turn_none, turn_safe, turn_next, turn_done}
 use Rattle.small_passes.proofs.all_rows2.Goals as goal
 use Rattle.small_passes.proofs.all_rows2.Goals.{Start}
 

@@ -1,10 +1,6 @@
 use Prim.Native.Nat.{◌*◌, ◌-◌}
-use native.Mathlib.Omega.{arith}
-use borrow.Author.Rules.{rules}
-use Rattle.blocks.specs.Block.{rows}
-use Rattle.blocks.specs.Inverse.{lossy, apply}
-use Rattle.blocks.proofs.Passes.{small_valid}
-use Rattle.blocks.proofs.Turns.{Job, rows_job, Turn, turn_none, turn_safe, turn_next, turn_done}
+use Rattle.blocks.specs.Inverse.{lossy}
+use Rattle.blocks.proofs.Turns.{Turn}
 use Rattle.small_passes.proofs.all_rows2.Given as goal
 
 abbrev pub invariant-loop-i : goal.invariant-loop-i

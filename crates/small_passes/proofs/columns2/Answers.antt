@@ -1,11 +1,9 @@
-use Prim.Native.Nat.{◌-◌}
 use native.Mathlib.Omega.{arith}
-use borrow.Author.Rules.{rules}
 use Rattle.whole.specs.Round.{Round2}
 use Rattle.blocks.specs.Block.{columns}
 use Rattle.blocks.specs.Inverse.{lossy, apply}
 use Rattle.blocks.proofs.Passes.{small_valid}
-use Rattle.blocks.proofs.Turns.{Job, columns_job, Turn, turn_none, turn_safe, turn_grown, turn_next, turn_done}
+use Rattle.blocks.proofs.Turns.{Job, columns_job, turn_none, turn_safe, turn_grown, turn_next, turn_done}
 use Rattle.small_passes.proofs.columns2.Goals as goal
 use Rattle.small_passes.proofs.columns2.Goals.{Start}
 

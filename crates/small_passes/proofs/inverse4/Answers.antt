@@ -1,7 +1,6 @@
 use mathlib.Core.Path.{◌≡◌, sym, ◌∙◌}
 use mathlib.Core.Bool.{true}
 use native.Mathlib.Omega.{arith}
-use borrow.Author.Rules.{rules}
 use Rattle.blocks.specs.Block.{only_dc}
 use Rattle.dc.proofs.Alone.{alone, dc_written}
 use Rattle.small_passes.proofs.inverse4.Goals as goal

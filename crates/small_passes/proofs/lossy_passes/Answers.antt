@@ -1,5 +1,4 @@
 use native.Mathlib.Omega.{arith}
-use borrow.Author.Rules.{rules}
 use Rattle.blocks.specs.Inverse.{lossy, rounding}
 use Rattle.blocks.proofs.Passes.{small_valid}
 use Rattle.blocks.proofs.Inverse.{after_rows, both_passes}

@@ -1,11 +1,10 @@
 use mathlib.Core.Path.{refl}
-use Prim.Native.Nat.{◌*◌, ◌-◌}
+use Prim.Native.Nat.{◌*◌}
 use native.Mathlib.Omega.{arith}
-use borrow.Author.Rules.{rules}
 use Rattle.blocks.specs.Block.{rows}
 use Rattle.blocks.specs.Inverse.{Wht, apply}
 use Rattle.blocks.specs.Inner.{Safe}
-use Rattle.blocks.proofs.Turns.{Job, rows_job, Turn, turn_none, turn_safe, turn_next, turn_done}
+use Rattle.blocks.proofs.Turns.{Job, rows_job, turn_none, turn_safe, turn_next, turn_done}
 use Rattle.small_passes.proofs.wht_all_rows.Goals as goal
 use Rattle.small_passes.proofs.wht_all_rows.Goals.{Start}
 

@@ -1,11 +1,6 @@
-use mathlib.Core.Path.{refl}
 use Prim.Native.Nat.{◌*◌, ◌-◌}
-use native.Mathlib.Omega.{arith}
-use borrow.Author.Rules.{rules}
-use Rattle.blocks.specs.Block.{rows}
-use Rattle.blocks.specs.Inverse.{Wht, apply}
-use Rattle.blocks.specs.Inner.{Safe}
-use Rattle.blocks.proofs.Turns.{Job, rows_job, Turn, turn_none, turn_safe, turn_next, turn_done}
+use Rattle.blocks.specs.Inverse.{Wht}
+use Rattle.blocks.proofs.Turns.{Turn}
 use Rattle.small_passes.proofs.wht_all_rows.Given as goal
 
 abbrev pub invariant-loop-i : goal.invariant-loop-i

@@ -1,11 +1,6 @@
-use mathlib.Core.Path.{refl}
 use Prim.Native.Nat.{◌-◌}
-use native.Mathlib.Omega.{arith}
-use borrow.Author.Rules.{rules}
-use Rattle.blocks.specs.Block.{columns}
-use Rattle.blocks.specs.Inverse.{Wht, apply}
-use Rattle.blocks.specs.Inner.{Safe}
-use Rattle.blocks.proofs.Turns.{Job, columns_job, Turn, turn_none, turn_safe, turn_next, turn_done}
+use Rattle.blocks.specs.Inverse.{Wht}
+use Rattle.blocks.proofs.Turns.{Turn}
 use Rattle.small_passes.proofs.wht_columns.Given as goal
 
 abbrev pub invariant-loop-j : goal.invariant-loop-j

@@ -1,6 +1,5 @@
 use mathlib.Core.Path.{refl}
 use native.Mathlib.Omega.{arith}
-use borrow.Author.Rules.{rules}
 use Rattle.blocks.specs.Inverse.{Wht, rounding}
 use Rattle.blocks.proofs.Inverse.{after_rows, both_passes}
 use Rattle.small_passes.proofs.wht_passes.Goals as goal

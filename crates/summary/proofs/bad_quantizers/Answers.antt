@@ -1,5 +1,4 @@
 use mathlib.Core.Path.{sym, ◌∙◌}
-use borrow.Author.Rules.{rules}
 use Rattle.summary.proofs.bad_quantizers.Goals as goal
 
 pub returns-then-bad : goal.returns-then-bad

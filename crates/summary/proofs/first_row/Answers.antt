@@ -1,6 +1,6 @@
-use mathlib.Core.Path.{sym, ap, ◌∙◌}
+use mathlib.Core.Path.{sym, ap}
 use native.Mathlib.Omega.{arith}
-use Rattle.summary.specs.Summary.{first_of, set_rows}
+use Rattle.summary.specs.Summary.{first_of}
 use Rattle.summary.proofs.Rows.{zero_rows, first_rows}
 use Rattle.summary.proofs.first_row.Goals as goal
 

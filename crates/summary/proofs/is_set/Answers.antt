@@ -1,5 +1,4 @@
 use mathlib.Core.Path.{refl}
-use borrow.Author.Rules.{rules}
 use Rattle.summary.specs.Summary.{is_set}
 use Rattle.summary.proofs.is_set.Goals as goal
 

@@ -1,6 +1,6 @@
-use mathlib.Core.Path.{sym, ap, ◌∙◌}
+use mathlib.Core.Path.{sym, ap}
 use native.Mathlib.Omega.{arith}
-use Rattle.summary.specs.Summary.{last_of, set_rows}
+use Rattle.summary.specs.Summary.{last_of}
 use Rattle.summary.proofs.Rows.{zero_rows, last_rows, leads_most}
 use Rattle.summary.proofs.last_row.Goals as goal
 

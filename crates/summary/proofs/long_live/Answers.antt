@@ -1,7 +1,6 @@
 use mathlib.Core.Path.{sym, ◌∙◌}
 use native.Mathlib.Omega.{arith}
 use Rattle.summary.proofs.Parts.{live_early, live_late}
-use borrow.Author.Rules.{rules}
 use Rattle.summary.proofs.long_live.Goals as goal
 
 pub returns-then-any_live : goal.returns-then-any_live

@@ -2,7 +2,6 @@ use Prim.Native.Nat.{◌+◌, ◌*◌, ◌≤◌}
 use native.Mathlib.Omega.{arith}
 use lib.ListN.{length}
 use Rattle.summary.proofs.Places.{row_inside}
-use borrow.Author.Rules.{rules}
 use Rattle.summary.proofs.row_live.Goals as goal
 use Rattle.summary.proofs.row_live.Goals.{Start}
 

@@ -1,14 +1,12 @@
-use mathlib.Core.Path.{◌≡◌, refl, sym, ap, ◌∙◌}
+use mathlib.Core.Path.{◌≡◌, sym, ap, ◌∙◌}
 use mathlib.Core.Bool.{Bool}
-use mathlib.Core.Logic.{⊎_elim}
-use Prim.Native.Nat.{ℕ, ◌+◌, ◌-◌, ◌*◌, ◌^◌, ◌≤◌, ◌<◌}
-use native.Mathlib.Nat.{pow-suc, le_antisymm}
+use Prim.Native.Nat.{ℕ, ◌+◌, ◌*◌, ◌^◌, ◌≤◌, ◌<◌}
+use native.Mathlib.Nat.{pow-suc}
 use native.Mathlib.Numerals.{add-one}
 use native.Mathlib.Omega.{arith}
-use borrow.Author.Rules.{rules}
 use lib.Pow.{pow_mono}
 use Rattle.blocks.specs.Block.{live}
-use Rattle.summary.specs.Summary.{those, mask, live_rows, summary_of}
+use Rattle.summary.specs.Summary.{live_rows, summary_of}
 use Rattle.summary.proofs.Digits.{one_shl}
 use Rattle.summary.proofs.Rows.{mask_none, mask_lt, mask_yes, mask_no}
 use Rattle.summary.proofs.scan.Goals as goal

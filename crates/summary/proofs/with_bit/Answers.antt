@@ -1,8 +1,4 @@
-use mathlib.Core.Path.{◌≡◌, sym, ap, ◌∙◌}
-use Prim.Native.Nat.{◌-◌, ◌^◌}
 use native.Mathlib.Omega.{arith}
-use borrow.Author.Rules.{rules}
-use lib.Bits.{bit_and, bit_or}
 use Rattle.summary.proofs.Digits.{one_shl}
 use Rattle.summary.proofs.Bit.{with_set, with_clear}
 use Rattle.summary.proofs.with_bit.Goals as goal

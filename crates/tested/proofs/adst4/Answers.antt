@@ -5,9 +5,6 @@ use lib.Dec.{lit<}
 use lib.IntN.{ℤ, pos, ◌+ℤ◌, ◌-ℤ◌, ◌*ℤ◌}
 use lib.ListN.{get_or}
 use mir.Syntax.{w32}
-use borrow.Author.Rules.{rules}
-use borrow.Author.Tests.{not-false}
-use Rattle.whole.specs.Round.{Round2}
 use Rattle.whole.specs.Within.{Within}
 use Rattle.whole.proofs.Signed.{C, loc, lit, ◌⊕◌, ◌⊖◌, ◌⊗◌, val, raw, rd, code, fits as room, within, value}
 use Rattle.whole.proofs.Within.{back, within_sfits}

@@ -1,12 +1,11 @@
 -- `tested::angle` meets its contract: arm by arm, and what the arms leave is the last angle.
-use mathlib.Core.Path.{◌≡◌, refl, sym}
+use mathlib.Core.Path.{◌≡◌}
 use mathlib.Core.Bool.{Bool, true, false, ◌||◌}
 use mathlib.Core.List.{List, [], ◌∷◌}
 use Prim.Native.Nat.{ℕ}
-use native.Mathlib.Decide.{ℕ_discrete}
 use native.Mathlib.Omega.{arith}
 use borrow.Author.Tests.{ne_eqb}
-use lib.Dec.{T, ltb, eqb, eqb→eq}
+use lib.Dec.{T, eqb, eqb→eq}
 use lib.IntN.{ℤ}
 use Rattle.narrow.proofs.Angles.{Angle, angle3, angle6, angle7, angle8, angle11, angle12, angle14, angle15, angle16, angle19, angle22, angle23, angle24, angle27, angle28, angle30, angle31, angle48, angle68, angle72, angle84, angle112, angle_back20, angle_back4}
 use Rattle.tested.specs.Inner.{angle_at, OfAngle, among, known}

@@ -3,7 +3,6 @@ use mathlib.Core.Path.{◌≡◌, sym}
 use mathlib.Core.Bool.{true}
 use Prim.Native.Nat.{◌^◌, ◌/◌, ◌%◌}
 use native.Mathlib.Omega.{arith}
-use borrow.Author.Rules.{rules}
 use Rattle.primitives.specs.Brev.{Brev}
 use Rattle.steps.specs.Step2.{Arrays}
 use Rattle.adst.specs.Adst.{adst_in, adst_out}

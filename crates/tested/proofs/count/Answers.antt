@@ -1,7 +1,6 @@
 -- `tested::count` meets its contract: the lengths are computed.
-use mathlib.Core.Path.{◌≡◌, refl}
+use mathlib.Core.Path.{refl}
 use native.Mathlib.Omega.{arith}
-use borrow.Author.Rules.{rules}
 use Rattle.whole.specs.Steps.{each, when}
 use Rattle.dct.specs.Dct.{steps2, steps3, steps4, steps5, steps6, steps7, tail_at, tail, dct_steps, dct_row}
 use Rattle.adst.specs.Adst.{on_t, adst8_steps, adst16_steps, adst_steps}

@@ -9,7 +9,7 @@ use lib.ListN.{length, replicate}
 use borrow.Author.Rules.{rules}
 use Rattle.whole.specs.Steps.{each, when}
 use Rattle.primitives.specs.Brev.{Brev}
-use Rattle.steps.specs.Step.{Step, Bf, Hd, Move, step}
+use Rattle.steps.specs.Step.{Bf, Hd, Move, step}
 use Rattle.dct.specs.Dct.{steps2, steps3, steps4, steps5, steps6, steps7, tail_at, tail, dct_steps, dct_row}
 use Rattle.adst.specs.Adst.{on_t}
 use Rattle.narrow.specs.Kept.{shorts}

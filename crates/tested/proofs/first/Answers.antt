@@ -1,9 +1,8 @@
 -- `tested::first` meets its contract.
-use mathlib.Core.Path.{◌≡◌, refl}
+use mathlib.Core.Path.{refl}
 use native.Mathlib.Omega.{arith}
-use borrow.Author.Rules.{rules}
 use Rattle.tested.specs.Inner.{first_of}
-use Rattle.tested.specs.declared.Kind.TheVariants.{Dct, Adst, WhtRow, WhtColumn}
+use Rattle.tested.specs.declared.Kind.TheVariants.{Adst}
 use Rattle.tested.proofs.Lists.{sized, started}
 use Rattle.tested.proofs.first.Goals as goal
 

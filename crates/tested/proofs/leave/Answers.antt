@@ -1,15 +1,14 @@
 -- `tested::leave` meets its contract: the bits as the code has them are the definition's, by computation.
-use mathlib.Core.Path.{◌≡◌, ◌∙◌, sym, ap}
-use Prim.Native.Nat.{ℕ, ◌≤◌, ◌<◌, ◌-◌, ◌/◌, ◌^◌}
+use mathlib.Core.Path.{◌≡◌, ◌∙◌}
+use Prim.Native.Nat.{ℕ, ◌≤◌, ◌<◌, ◌/◌, ◌^◌}
 use native.Mathlib.Omega.{arith}
 use lib.Bits.{bit_xor}
 use lib.Dec.{T, eqb, eqb→eq}
-use lib.IntN.{ℤ, pos}
+use lib.IntN.{pos}
 use lib.ListN.{get_or}
 use lib.Pow.{pow_mono}
 use mir.Syntax.{w16}
-use borrow.Author.Rules.{rules}
-use Rattle.whole.specs.Lists.{fill, move}
+use Rattle.whole.specs.Lists.{move}
 use Rattle.whole.proofs.Lists.{fill_none, fill_more, fill_done}
 use Rattle.whole.proofs.Signed.{rd_ok}
 use Rattle.whole.proofs.Tests.{all_below, below}

@@ -1,22 +1,9 @@
-use mathlib.Core.Path.{◌≡◌, ◌∙◌, sym, ap}
-use Prim.Native.Nat.{ℕ, ◌≤◌, ◌<◌, ◌-◌, ◌/◌, ◌^◌}
-use native.Mathlib.Omega.{arith}
-use lib.Bits.{bit_xor}
-use lib.Dec.{T, eqb, eqb→eq}
-use lib.IntN.{ℤ, pos}
+use mathlib.Core.Path.{◌≡◌}
+use Prim.Native.Nat.{◌≤◌, ◌-◌}
+use lib.IntN.{pos}
 use lib.ListN.{get_or}
-use lib.Pow.{pow_mono}
-use mir.Syntax.{w16}
-use borrow.Author.Rules.{rules}
-use Rattle.whole.specs.Lists.{fill, move}
-use Rattle.whole.proofs.Lists.{fill_none, fill_more, fill_done}
-use Rattle.whole.proofs.Signed.{rd_ok}
-use Rattle.whole.proofs.Tests.{all_below, below}
-use Rattle.primitives.specs.Brev.{Brev}
-use Rattle.primitives.proofs.Reversal.{brev_lt}
-use Rattle.steps.specs.Step.{step}
-use Rattle.adst.specs.Adst.{out8, out16, adst_out}
-use Rattle.adst.proofs.Adst.{two_to_four}
+use Rattle.whole.specs.Lists.{fill}
+use Rattle.adst.specs.Adst.{adst_out}
 use Rattle.tested.proofs.leave.Given as goal
 
 abbrev pub invariant-loop-k : goal.invariant-loop-k

@@ -1,18 +1,10 @@
-use mathlib.Core.Path.{◌≡◌, ap, subst, sym}
-use mathlib.Core.Bool.{true}
-use Prim.Native.Nat.{ℕ, ◌+◌, ◌-◌, ◌≤◌, ◌<◌, ◌^◌}
-use native.Mathlib.Omega.{arith}
-use lib.Dec.{T}
-use lib.ListN.{length, get_or}
-use borrow.Author.Rules.{rules}
-use Rattle.steps.specs.Step.{A4}
-use Rattle.steps.specs.Step2.{on}
-use Rattle.narrow.specs.Kept.{shorts}
-use Rattle.tested.specs.Line.{pass_of, steps_of, Sized, Line}
-use Rattle.tested.specs.Inner.{step_of, ready, first_of}
+use mathlib.Core.Path.{◌≡◌}
+use Prim.Native.Nat.{◌-◌, ◌≤◌}
+use lib.ListN.{length}
+use Rattle.tested.specs.Line.{pass_of, steps_of, Sized}
+use Rattle.tested.specs.Inner.{first_of}
 use Rattle.tested.specs.declared.Kind.{Kind}
-use Rattle.tested.proofs.Lists.{at_most, in_table, entry}
-use Rattle.tested.proofs.Going.{Going, going_begin, going_room, going_next, going_stop, going_end}
+use Rattle.tested.proofs.Going.{Going}
 use Rattle.tested.proofs.line.Given as goal
 
 abbrev pub invariant-loop-i : goal.invariant-loop-i

@@ -2,11 +2,10 @@
 use mathlib.Core.Path.{◌≡◌, refl, sym, subst}
 use mathlib.Core.Bool.{Bool, true}
 use mathlib.Core.List.{List}
-use Prim.Native.Nat.{ℕ, ◌≤◌}
+use Prim.Native.Nat.{◌≤◌}
 use lib.Dec.{lit≤, lit<}
 use lib.IntN.{ℤ}
 use lib.ListN.{length}
-use borrow.Author.Rules.{rules}
 use Rattle.steps.specs.Step.{Step, A4, Wh, step}
 use Rattle.adst.specs.Adst.{on_t, adst_steps}
 use Rattle.wht.specs.Wht.{wht_row}
@@ -15,7 +14,7 @@ use Rattle.narrow.specs.Inner.{fits}
 use Rattle.tested.specs.Line.{pass_of, steps_of, Sized, Line}
 use Rattle.tested.specs.Inner.{Told}
 use Rattle.tested.specs.declared.Kind.{Kind}
-use Rattle.tested.specs.declared.Kind.TheVariants.{Dct, Adst, WhtRow, WhtColumn}
+use Rattle.tested.specs.declared.Kind.TheVariants.{Adst, WhtRow, WhtColumn}
 use Rattle.tested.proofs.Going.{Nth, going_begin, on_last}
 use Rattle.tested.proofs.line4.Goals as goal
 

@@ -1,13 +1,11 @@
 -- `tested::negate` meets its contract.
 use mathlib.Core.Path.{◌≡◌, sym, ap, ◌∙◌}
 use mathlib.Core.Bool.{true, not}
-use lib.IntN.{ℤ, pos, neg_ℤ}
+use lib.IntN.{pos, neg_ℤ}
 use lib.ListN.{get_or}
 use mir.Syntax.{w32}
-use borrow.Author.Rules.{rules}
 use Rattle.whole.proofs.Signed.{C, loc, minus, code, fits as room, value}
 use Rattle.steps.specs.Step.{Neg}
-use Rattle.narrow.specs.Kept.{short}
 use Rattle.narrow.specs.Inner.{fits}
 use Rattle.narrow.proofs.Locals.{read}
 use Rattle.tested.proofs.Answers.{stops, failed, passed}

@@ -1,8 +1,7 @@
 use mathlib.Core.Bool.{not}
 -- `tested::one` meets its contract.
-use mathlib.Core.Path.{◌≡◌, ap}
+use mathlib.Core.Path.{ap}
 use native.Mathlib.Omega.{arith}
-use borrow.Author.Rules.{rules}
 use Rattle.blocks.proofs.Inverse.{side_most}
 use Rattle.tested.specs.Line.{pass_of}
 use Rattle.tested.proofs.Done.{loaded_long, loaded_short, one_no, one_yes}

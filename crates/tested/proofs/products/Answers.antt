@@ -1,8 +1,6 @@
 -- `tested::products` meets its contract.
-use mathlib.Core.Path.{◌≡◌}
 use mathlib.Core.Bool.{true}
 use native.Mathlib.Omega.{arith}
-use borrow.Author.Rules.{rules}
 use Rattle.adst.specs.Inner.{arrays}
 use Rattle.narrow.proofs.Angles.{does_S}
 use Rattle.tested.proofs.Entries.{angle_is, cos_rd, sin_rd, may_turn}

@@ -1,12 +1,10 @@
 -- `tested::put` meets its contract.
 use mathlib.Core.Path.{sym, ◌∙◌, ◌≡◌}
-use lib.IntN.{ℤ}
 use mir.Facts.{to_z-of_z}
-use borrow.Author.Rules.{rules}
 use Rattle.narrow.specs.Kept.{short}
 use Rattle.narrow.specs.Inner.{short_pair}
 use mathlib.Core.Bool.{true}
-use Rattle.tested.proofs.Answers.{stops, failed, passed, not_first, not_second, both_short}
+use Rattle.tested.proofs.Answers.{stops, not_first, not_second, both_short}
 use Rattle.tested.proofs.put.Goals as goal
 use Rattle.tested.proofs.put.Goals.{After-is_short, After-is_short-2, Else-not-is_short-2}
 

@@ -1,17 +1,14 @@
 use mathlib.Core.Bool.{not}
 -- `tested::rows` meets its contract.
 use mathlib.Core.Path.{◌≡◌, refl, ap, ◌∙◌}
-use mathlib.Core.List.{List}
-use Prim.Native.Nat.{ℕ, ◌+◌, ◌*◌, ◌-◌, ◌≤◌, ◌<◌}
-use native.Mathlib.Nat.{le_antisymm}
+use Prim.Native.Nat.{ℕ, ◌*◌, ◌<◌}
 use native.Mathlib.Omega.{arith}
-use lib.IntN.{ℤ}
 use borrow.Author.Rules.{rules}
 use Rattle.answers.specs.Sizes.{side}
 use Rattle.blocks.specs.Inverse.{apply}
 use Rattle.blocks.proofs.Blocks.{row_to_come, rows_loop}
 use Rattle.tested.specs.Line.{pass_of}
-use Rattle.tested.proofs.Done.{tells_yes, tells_no, area_fits, row_in, placed_as, Lines, Done, done_none, done_next, done_fails}
+use Rattle.tested.proofs.Done.{tells_yes, tells_no, area_fits, row_in, placed_as, Lines, done_none, done_next, done_fails}
 use Rattle.tested.proofs.rows.Goals as goal
 use Rattle.tested.proofs.rows.Goals.{In-loop-i}
 

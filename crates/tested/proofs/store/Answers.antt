@@ -1,12 +1,8 @@
 use mir.Syntax.{w16}
 use mir.Facts.{to_z-of_z}
-use mathlib.Core.Path.{◌≡◌}
-use Prim.Native.Nat.{◌≤◌, ◌<◌, ◌-◌, ◌+◌, ◌*◌}
+use Prim.Native.Nat.{◌<◌, ◌+◌, ◌*◌}
 use native.Mathlib.Omega.{arith}
 use borrow.Author.Rules.{rules}
-use lib.IntN.{pos}
-use lib.ListN.{get_or, set}
-use Rattle.whole.specs.Inner.{times}
 use Rattle.whole.proofs.Loops.{loops, times_more}
 use Rattle.blocks.specs.Inner.{set_line}
 use Rattle.tested.proofs.store.Goals as goal

@@ -1,11 +1,9 @@
 -- `tested::sums_of_s` meets its contract.
 use mathlib.Core.Path.{◌≡◌, ap}
 use mathlib.Core.List.{List}
-use native.Mathlib.Omega.{arith}
-use lib.IntN.{ℤ, pos, ◌+ℤ◌, ◌-ℤ◌}
+use lib.IntN.{ℤ, pos}
 use lib.ListN.{get_or}
 use mir.Syntax.{w32}
-use borrow.Author.Rules.{rules}
 use Rattle.whole.specs.Round.{Round2}
 use Rattle.whole.proofs.Signed.{C, loc, ◌⊕◌, ◌⊖◌, raw, rd, fits as room, value, within}
 use Rattle.primitives.specs.Rotations.{apply_sh, set_pair}

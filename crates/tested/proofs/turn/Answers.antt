@@ -1,6 +1,4 @@
 -- `tested::turn` meets its contract.
-use mathlib.Core.Path.{◌≡◌}
-use borrow.Author.Rules.{rules}
 use Rattle.narrow.proofs.Angles.{tells}
 use Rattle.tested.proofs.Entries.{angle_is, cos_rd, sin_rd, may_turn}
 use Rattle.tested.proofs.turn.Goals as goal

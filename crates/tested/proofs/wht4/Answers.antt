@@ -7,8 +7,6 @@ use lib.IntN.{ℤ, pos}
 use lib.ListN.{get_or}
 use lib.Signed.{shr_z}
 use mir.Syntax.{w32}
-use borrow.Author.Rules.{rules}
-use borrow.Author.Tests.{not-false}
 use Rattle.whole.proofs.Signed.{is_ok, is_rd}
 use Rattle.steps.specs.Step.{step, wht4}
 use Rattle.narrow.specs.Inner.{fits}

@@ -1,7 +1,6 @@
 -- `tokens::ac_bound` meets its contract.
-use mathlib.Core.Path.{◌≡◌, ap}
+use mathlib.Core.Path.{ap}
 use lib.IntN.{nat_abs}
-use borrow.Author.Rules.{rules}
 use Rattle.answers.proofs.Passed.{quantizer}
 use Rattle.quant.proofs.Machine.{number, plain_cast}
 use Rattle.tokens.proofs.Bound.{bounds}

@@ -1,6 +1,5 @@
 -- `tokens::bad_quantizers` meets its contract.
 use mathlib.Core.Path.{sym, ◌∙◌}
-use borrow.Author.Rules.{rules}
 use Rattle.tokens.specs.Tokens.{bad_quantizers}
 use Rattle.tokens.proofs.bad_quantizers.Goals as goal
 

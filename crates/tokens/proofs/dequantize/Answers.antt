@@ -1,17 +1,12 @@
 -- `tokens::dequantize` meets its contract.
-use mathlib.Core.Path.{◌≡◌, refl, sym, ap, ◌∙◌}
-use Prim.Native.Nat.{ℕ, ◌+◌, ◌-◌, ◌≤◌, ◌<◌}
+use mathlib.Core.Path.{ap, ◌∙◌}
 use native.Mathlib.Omega.{arith}
-use lib.IntN.{pos, nat_abs}
-use lib.ListN.{length, get_or, set}
+use lib.IntN.{pos}
+use lib.ListN.{get_or, set}
 use mir.Syntax.{w64}
 use mir.ValLaws.{to_z-of_z}
-use borrow.Author.Rules.{rules}
-use Rattle.whole.specs.Lists.{fill}
 use Rattle.whole.proofs.Lists.{fill_none, fill_more, fill_done}
 use Rattle.whole.proofs.Signed.{rd_ok}
-use Rattle.quant.specs.Places.{quantizer_at}
-use Rattle.quant.specs.Token.{dequant}
 use Rattle.tokens.proofs.dequantize.Goals as goal
 
 pub coef_at-requires : goal.coef_at-requires

@@ -1,5 +1,4 @@
 -- `tokens::largest_product` meets its contract.
-use borrow.Author.Rules.{rules}
 use borrow.Author.Tests.{ne_eqb}
 use Rattle.tokens.proofs.largest_product.Goals as goal
 

@@ -1,17 +1,12 @@
 -- `tokens::some_above` meets its contract.
-use mathlib.Core.Path.{◌≡◌, refl, sym, ap, ◌∙◌}
+use mathlib.Core.Path.{◌≡◌, ap, ◌∙◌}
 use mathlib.Core.Bool.{true, false, cond}
-use mathlib.Core.Logic.{⊎_elim}
-use Prim.Native.Nat.{ℕ, ◌+◌, ◌-◌, ◌≤◌, ◌<◌}
 use native.Mathlib.Omega.{arith}
-use lib.Dec.{ltb, eqb}
+use lib.Dec.{eqb}
 use lib.IntN.{pos, nat_abs}
-use lib.ListN.{length, get_or}
+use lib.ListN.{get_or}
 use mir.Syntax.{w64}
 use mir.ValLaws.{to_z-of_z}
-use borrow.Author.Rules.{rules}
-use borrow.Author.Tests.{lt-ltb, le-ltb}
-use Rattle.tokens.specs.Inner.{any_above}
 use Rattle.tokens.proofs.Above.{counted, above_none, above_hit, above_miss}
 use Rattle.tokens.proofs.some_above.Goals as goal
 use Rattle.tokens.proofs.some_above.Goals.{Joined-bound_at-magnitude, else-bound_at-magnitude, then-bound_at-magnitude}

@@ -1,17 +1,7 @@
-use mathlib.Core.Path.{◌≡◌, refl, sym, ap, ◌∙◌}
-use mathlib.Core.Bool.{true, false, cond}
-use mathlib.Core.Logic.{⊎_elim}
-use Prim.Native.Nat.{ℕ, ◌+◌, ◌-◌, ◌≤◌, ◌<◌}
-use native.Mathlib.Omega.{arith}
-use lib.Dec.{ltb, eqb}
-use lib.IntN.{pos, nat_abs}
-use lib.ListN.{length, get_or}
-use mir.Syntax.{w64}
-use mir.ValLaws.{to_z-of_z}
-use borrow.Author.Rules.{rules}
-use borrow.Author.Tests.{lt-ltb, le-ltb}
+use mathlib.Core.Path.{◌≡◌}
+use Prim.Native.Nat.{◌-◌, ◌≤◌}
+use lib.Dec.{ltb}
 use Rattle.tokens.specs.Inner.{any_above}
-use Rattle.tokens.proofs.Above.{counted, above_none, above_hit, above_miss}
 use Rattle.tokens.proofs.some_above.Given as goal
 
 abbrev pub invariant-loop-k : goal.invariant-loop-k

@@ -1,7 +1,6 @@
 -- `wht::inverse_wht` meets its contract.
 use lib.Dec.{lit<}
 use mir.Syntax.{w64}
-use borrow.Author.Rules.{rules}
 use Rattle.whole.specs.Steps.{run}
 use Rattle.whole.proofs.Signed.{is_ok, is_rd}
 use Rattle.steps.specs.Step.{step, wht4}

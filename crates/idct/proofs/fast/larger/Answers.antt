@@ -1,6 +1,5 @@
 use mathlib.Core.Path.{◌≡◌, sym, ◌∙◌}
 use mathlib.Core.Bool.{true}
-use borrow.Author.Rules.{rules}
 use Rattle.answers.specs.Sizes.{area}
 use Rattle.blocks.specs.Block.{only_dc}
 use Rattle.dc.proofs.Alone.{alone, area_some, area_more, dc_written}

@@ -1,10 +1,8 @@
-use mathlib.Core.Path.{◌≡◌, refl, ◌∙◌}
+use mathlib.Core.Path.{◌≡◌}
 use Prim.Native.Nat.{ℕ, ◌≤◌}
 use native.Mathlib.Omega.{arith}
-use borrow.Author.Rules.{rules}
 use Rattle.blocks.specs.Inverse.{inverse2d}
 use Rattle.blocks.proofs.Inverse.{side_most}
-use Rattle.idct.specs.Driver.{Input}
 use Rattle.idct.proofs.Counted.{lossless_counted, lossy_counted}
 use Rattle.idct.proofs.fast.residual.Goals as goal
 

@@ -1,4 +1,3 @@
-use borrow.Author.Rules.{rules}
 use Rattle.idct.proofs.Answers.{any_tried}
 use Rattle.idct.proofs.fast.try_4.Goals as goal
 

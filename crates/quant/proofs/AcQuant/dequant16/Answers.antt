@@ -1,5 +1,4 @@
-use mathlib.Core.Path.{◌≡◌, ◌∙◌}
-use borrow.Author.Rules.{rules}
+use mathlib.Core.Path.{◌∙◌}
 use mir.Syntax.{w16}
 use Rattle.whole.proofs.Signed.{rd_ok}
 use Rattle.quant.proofs.Machine.{number, number_16, short_cast}

@@ -1,4 +1,4 @@
-use mathlib.Core.Path.{◌≡◌, refl}
+use mathlib.Core.Path.{refl}
 use native.Mathlib.Omega.{arith}
 use Rattle.quant.proofs.Machine.{number, plain_cast, weight_most}
 use Rattle.quant.proofs.DcQuant.weight.Goals as goal

@@ -1,0 +1,280 @@
+// The public calls for C as a static library: each is the proved call of its name in `exports`, with its clauses.
+#![tactic(auto)]
+
+ghost use Rattle.std.specs.Prelude.{◌≡◌, pos, length};
+ghost use Rattle.answers.specs.Limits.{codeable};
+ghost use Rattle.idct.specs.Driver.{answer_of, block_after};
+ghost use Rattle.summary.specs.Summary.{set_rows, first_of, last_of};
+ghost use Rattle.summary.specs.Replace.{answer_of as replaceAnswer};
+ghost use Rattle.idct32.specs.Engine.{answer_of32, block_after32};
+ghost use Rattle.reconstruct.specs.Reconstruct.{answer_of as reconstructAnswer, samples_after};
+ghost use Rattle.report.specs.Report.{answer_of as report_answer};
+ghost use Rattle.fwd_dct.specs.Forward.{answer_of as dctAnswer, block_after as dctAfter};
+ghost use Rattle.fwd_transform.specs.ForwardWht.{wht_answer, wht_after};
+ghost use Rattle.fwd_transform.specs.Quantize.{answer_of as quantizeAnswer, coefs_after, rule_answer, ruled_after};
+ghost use Rattle.vbk.specs.Promises.{Printed};
+ghost use Rattle.exports.specs.Told.{Told};
+ghost use Rattle.exports.specs.Write.{request_answer, buffer_after};
+ghost use Rattle.exports.specs.Report.{lent_after};
+ghost use Rattle.exports.specs.Rows.{asked_answer, asked_after, replaced_after, counting_answer, counting_after};
+ghost use Rattle.rows_told.specs.Rows.{row_number};
+ghost use Rattle.exports.specs.Run.{RunTold};
+
+// The 2D driver: the residual of a block, in its place.
+#[unsafe(no_mangle)]
+pub extern "C" fn bracetwill_inverse_transform_2d(
+    block: &mut [i64],
+    n: u32,
+    tx_type: u8,
+    lossless: bool,
+) -> u32
+    ensures { Told answer_of block_after (record { block = block.entry.now; n = n; tx_type = tx_type; lossless = lossless }) result block.exit.now }
+{
+    exports::bracetwill_inverse_transform_2d(block, n, tx_type, lossless)
+}
+
+// The reference driver, which promises the same.
+#[unsafe(no_mangle)]
+pub extern "C" fn bracetwill_inverse_transform_2d_reference(
+    block: &mut [i64],
+    n: u32,
+    tx_type: u8,
+    lossless: bool,
+) -> u32
+    ensures { Told answer_of block_after (record { block = block.entry.now; n = n; tx_type = tx_type; lossless = lossless }) result block.exit.now }
+{
+    exports::bracetwill_inverse_transform_2d_reference(block, n, tx_type, lossless)
+}
+
+// The 2D driver with the number of its row transforms, into the room for it, which stays under a refusal.
+#[unsafe(no_mangle)]
+pub extern "C" fn bracetwill_inverse_transform_2d_rows(
+    block: &mut [i64],
+    n: u32,
+    tx_type: u8,
+    lossless: bool,
+    rows: &mut u32,
+) -> u32
+    ensures { Told counting_answer counting_after (record { input = record { block = block.entry.now; n = n; tx_type = tx_type; lossless = lossless }; room = rows.old }) result (record { block = block.exit.now; rows = rows.new }) }
+{
+    exports::bracetwill_inverse_transform_2d_rows(block, n, tx_type, lossless, rows)
+}
+
+// The summary of a block's rows, into the room for it, which stays under a refusal.
+#[unsafe(no_mangle)]
+pub extern "C" fn bracetwill_row_summary(block: &[i64], n: u32, summary: &mut u32) -> u32
+    ensures { Told asked_answer asked_after (record { block = block.entry.now; n = n; room = summary.old }) result summary.new }
+{
+    exports::bracetwill_row_summary(block, n, summary)
+}
+
+// How many rows a summary has.
+#[unsafe(no_mangle)]
+pub extern "C" fn bracetwill_row_count(summary: u32) -> u32
+    ensures { result ≡ length (set_rows summary) }
+{
+    exports::bracetwill_row_count(summary)
+}
+
+// The first row of a summary.
+#[unsafe(no_mangle)]
+pub extern "C" fn bracetwill_first_row(summary: u32) -> i32
+    ensures { result ≡ row_number (first_of (set_rows summary)) }
+{
+    exports::bracetwill_first_row(summary)
+}
+
+// The last row of a summary.
+#[unsafe(no_mangle)]
+pub extern "C" fn bracetwill_last_row(summary: u32) -> i32
+    ensures { result ≡ row_number (last_of (set_rows summary)) }
+{
+    exports::bracetwill_last_row(summary)
+}
+
+// One token of a block replaced, with the summary beside it.
+#[unsafe(no_mangle)]
+pub extern "C" fn bracetwill_replace_token(
+    block: &mut [i64],
+    summary: &mut u32,
+    tx_sz: u32,
+    place: usize,
+    token: i64,
+    dc_quant: i32,
+    ac_quant: i32,
+    bit_depth: u32,
+) -> u32
+    ensures { Told replaceAnswer replaced_after (record { block = block.entry.now; summary = summary.old; size = tx_sz; place = place; token = token; dc = record { 0 = dc_quant }; ac = record { 0 = ac_quant }; depth = bit_depth }) result (record { block = block.exit.now; rows = summary.new }) }
+{
+    exports::bracetwill_replace_token(block, summary, tx_sz, place, token, dc_quant, ac_quant, bit_depth)
+}
+
+// The 32-bit engine: the 2D driver for blocks that stay within 16 bits on the way.
+#[unsafe(no_mangle)]
+pub extern "C" fn bracetwill_inverse_transform_2d_32(
+    block: &mut [i64],
+    n: u32,
+    tx_type: u8,
+    lossless: bool,
+) -> u32
+    ensures { Told answer_of32 block_after32 (record { block = block.entry.now; n = n; tx_type = tx_type; lossless = lossless }) result block.exit.now }
+{
+    exports::bracetwill_inverse_transform_2d_32(block, n, tx_type, lossless)
+}
+
+// A block's tokens into a plane's samples.
+#[unsafe(no_mangle)]
+pub extern "C" fn bracetwill_reconstruct_block(
+    samples: &mut [u16],
+    width: usize,
+    height: usize,
+    stride: usize,
+    x: usize,
+    y: usize,
+    tx_sz: u32,
+    tokens: &[i64],
+    dc_quant: i32,
+    ac_quant: i32,
+    tx_type: u8,
+    lossless: bool,
+    bit_depth: u32,
+) -> u32
+    ensures { Told reconstructAnswer samples_after (record { samples = samples.entry.now; plane = record { width = width; height = height; stride = stride }; x = x; y = y; size = tx_sz; tokens = tokens.now; dc = record { 0 = dc_quant }; ac = record { 0 = ac_quant }; tx_type = tx_type; lossless = lossless; depth = bit_depth }) result samples.exit.now }
+{
+    exports::bracetwill_reconstruct_block(samples, width, height, stride, x, y, tx_sz, tokens, dc_quant, ac_quant, tx_type, lossless, bit_depth)
+}
+
+// The same with a report beside it: every token of a block that is done is counted in its size and class.
+#[unsafe(no_mangle)]
+pub extern "C" fn bracetwill_reconstruct_block_report(
+    samples: &mut [u16],
+    width: usize,
+    height: usize,
+    stride: usize,
+    x: usize,
+    y: usize,
+    tx_sz: u32,
+    tokens: &[i64],
+    dc_quant: i32,
+    ac_quant: i32,
+    tx_type: u8,
+    lossless: bool,
+    bit_depth: u32,
+    counts: &mut [u32; 44],
+    sums: &mut [u64; 44],
+) -> u32
+    ensures { Told report_answer lent_after (record { block = record { samples = samples.entry.now; plane = record { width = width; height = height; stride = stride }; x = x; y = y; size = tx_sz; tokens = tokens.now; dc = record { 0 = dc_quant }; ac = record { 0 = ac_quant }; tx_type = tx_type; lossless = lossless; depth = bit_depth }; counts = counts.old; sums = sums.old }) result (record { samples = samples.exit.now; counts = counts.new; sums = sums.new }) }
+{
+    exports::bracetwill_reconstruct_block_report(samples, width, height, stride, x, y, tx_sz, tokens, dc_quant, ac_quant, tx_type, lossless, bit_depth, counts, sums)
+}
+
+// The forward WHT of a block.
+#[unsafe(no_mangle)]
+pub extern "C" fn bracetwill_forward_wht_2d(block: &mut [i64]) -> u32
+    ensures { Told wht_answer wht_after block.old result block.new }
+{
+    exports::bracetwill_forward_wht_2d(block)
+}
+
+// The forward DCT of a block, in whole numbers.
+#[unsafe(no_mangle)]
+pub extern "C" fn bracetwill_forward_dct_2d(block: &mut [i64], n: u32) -> u32
+    ensures { Told dctAnswer dctAfter (record { block = block.entry.now; n = n }) result block.exit.now }
+{
+    exports::bracetwill_forward_dct_2d(block, n)
+}
+
+// Coefficients to tokens, at any size and depth.
+#[unsafe(no_mangle)]
+pub extern "C" fn bracetwill_quantize_block_tx(
+    coefs: &mut [i64],
+    dc_quant: i32,
+    ac_quant: i32,
+    tx_sz: u32,
+    bit_depth: u32,
+) -> u32
+    ensures { Told quantizeAnswer coefs_after (record { coefs = coefs.entry.now; dc = record { 0 = dc_quant }; ac = record { 0 = ac_quant }; size = tx_sz; depth = bit_depth }) result coefs.exit.now }
+{
+    exports::bracetwill_quantize_block_tx(coefs, dc_quant, ac_quant, tx_sz, bit_depth)
+}
+
+// Coefficients to tokens, at size 0 and depth 8.
+#[unsafe(no_mangle)]
+pub extern "C" fn bracetwill_quantize_block(coefs: &mut [i64], dc_quant: i32, ac_quant: i32) -> u32
+    ensures { Told quantizeAnswer coefs_after (record { coefs = coefs.entry.now; dc = record { 0 = dc_quant }; ac = record { 0 = ac_quant }; size = 0; depth = 8 }) result coefs.exit.now }
+{
+    exports::bracetwill_quantize_block(coefs, dc_quant, ac_quant)
+}
+
+// Coefficients to tokens by rule 1 or 2, at any size and depth.
+#[unsafe(no_mangle)]
+pub extern "C" fn bracetwill_quantize_block_rule(
+    coefs: &mut [i64],
+    dc_quant: i32,
+    ac_quant: i32,
+    tx_sz: u32,
+    bit_depth: u32,
+    rule: u32,
+) -> u32
+    ensures { Told (rule_answer rule) (ruled_after rule) (record { coefs = coefs.entry.now; dc = record { 0 = dc_quant }; ac = record { 0 = ac_quant }; size = tx_sz; depth = bit_depth }) result coefs.exit.now }
+{
+    exports::bracetwill_quantize_block_rule(coefs, dc_quant, ac_quant, tx_sz, bit_depth, rule)
+}
+
+// The greatest magnitude of a token; 0 for a depth that is not 8, 10 or 12.
+#[unsafe(no_mangle)]
+pub extern "C" fn bracetwill_max_codeable_coef(bit_depth: u32) -> i64
+    ensures { result ≡ pos (codeable bit_depth) }
+{
+    exports::bracetwill_max_codeable_coef(bit_depth)
+}
+
+// A run over a VBK file: the plane and the records' answers as `vbk::replay` leaves them, the run's figures at the front of `figures`.
+#[unsafe(no_mangle)]
+pub extern "C" fn bracetwill_replay(
+    file: &[u8],
+    samples: &mut [u16],
+    answers: &mut [u8],
+    figures: &mut [u64],
+) -> u32
+    ensures { RunTold file.now samples.old answers.old figures.old result samples.new answers.new figures.new }
+{
+    exports::bracetwill_replay(file, samples, answers, figures)
+}
+
+// A run over a VBK file and its text, which is left at the front of `out`; how long it is. 0 where a lent room is too short.
+#[unsafe(no_mangle)]
+pub extern "C" fn bracetwill_blockrun(
+    file: &[u8],
+    samples: &mut [u16],
+    answers: &mut [u8],
+    out: &mut [u8],
+) -> usize
+    ensures { Printed file.now samples.old answers.old out.old result samples.new answers.new out.new }
+{
+    exports::bracetwill_blockrun(file, samples, answers, out)
+}
+
+// A VBK file at the front of `out`, and its length in `length`. Refused, both are as they were.
+#[unsafe(no_mangle)]
+pub extern "C" fn bracetwill_vbk_write(
+    depth: u8,
+    width: u16,
+    height: u16,
+    samples: &[u16],
+    xs: &[u16],
+    ys: &[u16],
+    sizes: &[u8],
+    tx_types: &[u8],
+    lossless: &[u8],
+    dcs: &[u16],
+    acs: &[u16],
+    counts: &[u32],
+    tokens: &[i32],
+    out: &mut [u8],
+    length: &mut [usize; 1],
+) -> u32
+    ensures { Told request_answer buffer_after (record { lent = record { depth = depth; width = width; height = height; samples = samples.now; xs = xs.now; ys = ys.now; sizes = sizes.now; tx_types = tx_types.now; lossless = lossless.now; dcs = dcs.now; acs = acs.now; counts = counts.now; tokens = tokens.now }; out = out.entry.now; size = length.old }) result (record { out = out.exit.now; size = length.new }) }
+{
+    exports::bracetwill_vbk_write(depth, width, height, samples, xs, ys, sizes, tx_types, lossless, dcs, acs, counts, tokens, out, length)
+}
