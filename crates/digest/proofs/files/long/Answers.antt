@@ -1,4 +1,4 @@
-use Rattle.std.proofs.Common.{to_z-of_z, rules}
+use Rattle.std.proofs.Common.{to_z-of_z}
 use mir.Facts.{sfits_widen}
 use Rattle.digest.proofs.files.long.Goals as goal
 

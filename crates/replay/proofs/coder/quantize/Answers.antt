@@ -1,4 +1,3 @@
-use borrow.Author.Rules.{rules}
 use Rattle.replay.proofs.coder.quantize.Goals as goal
 
 pub quantize-token-requires : goal.quantize-token-requires

@@ -1,4 +1,3 @@
-use borrow.Author.Rules.{rules}
 use Rattle.replay.proofs.Tests.{never}
 use Rattle.replay.proofs.parts.both_near.Goals as goal
 

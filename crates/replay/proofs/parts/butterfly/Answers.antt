@@ -1,4 +1,3 @@
-use borrow.Author.Rules.{rules}
 use Rattle.replay.proofs.parts.butterfly.Goals as goal
 
 pub butterfly-requires : goal.butterfly-requires

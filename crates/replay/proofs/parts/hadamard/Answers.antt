@@ -1,4 +1,3 @@
-use borrow.Author.Rules.{rules}
 use Rattle.replay.proofs.parts.hadamard.Goals as goal
 
 pub hadamard-requires : goal.hadamard-requires

@@ -1,5 +1,4 @@
 use native.Mathlib.Omega.{arith}
-use borrow.Author.Rules.{rules}
 use Rattle.whole.proofs.Within.{within_abs}
 use Rattle.replay.proofs.parts.round2.Goals as goal
 

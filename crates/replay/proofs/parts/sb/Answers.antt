@@ -1,4 +1,3 @@
-use borrow.Author.Rules.{rules}
 use Rattle.replay.proofs.parts.sb.Goals as goal
 
 pub sb-requires : goal.sb-requires

@@ -1,4 +1,3 @@
-use borrow.Author.Rules.{rules}
 use Rattle.replay.proofs.parts.sh.Goals as goal
 
 pub sh-requires : goal.sh-requires

@@ -1,6 +1,5 @@
 use mathlib.Core.Path.{sym, ◌∙◌}
 use borrow.Author.Tests.{not-true}
-use borrow.Author.Rules.{rules}
 use Rattle.answers.proofs.Passed.{none_within}
 use Rattle.replay.proofs.Tests.{never}
 use Rattle.replay.proofs.rows.all_near.Goals as goal

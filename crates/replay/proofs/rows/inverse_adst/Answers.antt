@@ -1,5 +1,4 @@
 use native.Mathlib.Omega.{arith}
-use borrow.Author.Rules.{rules}
 use Rattle.replay.proofs.Ready.{adst_ready}
 use Rattle.replay.proofs.rows.inverse_adst.Goals as goal
 

@@ -1,5 +1,4 @@
 use native.Mathlib.Omega.{arith}
-use borrow.Author.Rules.{rules}
 use Rattle.replay.proofs.rows.inverse_wht.Goals as goal
 
 pub inverse_wht-requires : goal.inverse_wht-requires
