@@ -1,7 +1,7 @@
 -- `tested::sums_of_s` meets its contract.
 use mathlib.Core.Path.{◌≡◌, ap}
 use mathlib.Core.List.{List}
-use lib.IntN.{ℤ, pos}
+use lib.IntN.{ℤ, pos, ◌+ℤ◌, ◌-ℤ◌}
 use lib.ListN.{get_or}
 use mir.Syntax.{w32}
 use Rattle.whole.specs.Round.{Round2}
