@@ -74,7 +74,7 @@ at_most =
 
 -- ---- the table has them all
 has : (es : List ℕ) → Tables es → (k : Kind) (n : ℕ) → Sized k n → Has es k n
-has es t = nine (Has es) t.dct4 t.dct8 t.dct16 t.dct32 t.adst4 t.adst8 t.adst16 t.wht_row_lem t.wht_column
+has es t = nine (Has es) t.dct4 t.dct8 t.dct16 t.dct32 t.adst4 t.adst8 t.adst16 t.wht_row t.wht_column
 
 pub entry : (es : List ℕ) → Tables es → (k : Kind) (n : ℕ) → Sized k n → (p : ℕ) → p ≡ first_of k n → (i : ℕ) → i < length (steps_of (pass_of k) n)
     → let e = get_or es (p + i) 0 in (step_of n e ≡ get_or (steps_of (pass_of k) n) i (on A4)) × T (ready n e)

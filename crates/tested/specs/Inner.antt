@@ -103,5 +103,5 @@ pub record Tables (es : List ℕ) : Type 0 where
   pub adst4 : Has es Adst 2
   pub adst8 : Has es Adst 3
   pub adst16 : Has es Adst 4
-  pub wht_row_lem : Has es WhtRow 2
+  pub wht_row : Has es WhtRow 2
   pub wht_column : Has es WhtColumn 2

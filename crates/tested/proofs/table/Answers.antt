@@ -20,6 +20,6 @@ returns c =
       adst4 = record { steps = refl; fine = tt };
       adst8 = record { steps = refl; fine = tt };
       adst16 = record { steps = refl; fine = tt };
-      wht_row_lem = record { steps = refl; fine = tt };
+      wht_row = record { steps = refl; fine = tt };
       wht_column = record { steps = refl; fine = tt };
     }
