@@ -5,13 +5,13 @@ ghost use Rattle.std.specs.Prelude.{◌≡◌, ◌∷◌, ◌≤◌, pos, length
 ghost use Rattle.answers.specs.Limits.{codeable};
 ghost use Rattle.idct.specs.Driver.{answer_of, block_after};
 ghost use Rattle.summary.specs.Summary.{set_rows, first_of, last_of};
-ghost use Rattle.summary.specs.Replace.{answer_of as replaceAnswer};
+ghost use Rattle.summary.specs.Replace.{answer_of as replace_answer};
 ghost use Rattle.idct32.specs.Engine.{answer_of32, block_after32};
-ghost use Rattle.reconstruct.specs.Reconstruct.{answer_of as reconstructAnswer, samples_after};
+ghost use Rattle.reconstruct.specs.Reconstruct.{answer_of as reconstruct_answer, samples_after};
 ghost use Rattle.report.specs.Report.{answer_of as report_answer};
-ghost use Rattle.fwd_dct.specs.Forward.{answer_of as dctAnswer, block_after as dctAfter};
+ghost use Rattle.fwd_dct.specs.Forward.{answer_of as dct_answer, block_after as dct_after};
 ghost use Rattle.fwd_transform.specs.ForwardWht.{wht_answer, wht_after};
-ghost use Rattle.fwd_transform.specs.Quantize.{answer_of as quantizeAnswer, coefs_after, rule_answer, ruled_after};
+ghost use Rattle.fwd_transform.specs.Quantize.{answer_of as quantize_answer, coefs_after, rule_answer, ruled_after};
 ghost use Rattle.vbk.specs.Promises.{Printed};
 ghost use Rattle.exports.specs.Told.{Told};
 ghost use Rattle.exports.specs.Write.{request_answer, buffer_after};
@@ -127,7 +127,7 @@ pub extern "C" fn bracetwill_replace_token(
     ac_quant: i32,
     bit_depth: u32,
 ) -> u32
-    ensures { Told replaceAnswer replaced_after (record { block = block.entry.now; summary = summary.old; size = tx_sz; place = place; token = token; dc = record { 0 = dc_quant }; ac = record { 0 = ac_quant }; depth = bit_depth }) result (record { block = block.exit.now; rows = summary.new }) }
+    ensures { Told replace_answer replaced_after (record { block = block.entry.now; summary = summary.old; size = tx_sz; place = place; token = token; dc = record { 0 = dc_quant }; ac = record { 0 = ac_quant }; depth = bit_depth }) result (record { block = block.exit.now; rows = summary.new }) }
 {
     let a = summary::replace_token(
         block,
@@ -173,7 +173,7 @@ pub extern "C" fn bracetwill_reconstruct_block(
     lossless: bool,
     bit_depth: u32,
 ) -> u32
-    ensures { Told reconstructAnswer samples_after (record { samples = samples.entry.now; plane = record { width = width; height = height; stride = stride }; x = x; y = y; size = tx_sz; tokens = tokens.now; dc = record { 0 = dc_quant }; ac = record { 0 = ac_quant }; tx_type = tx_type; lossless = lossless; depth = bit_depth }) result samples.exit.now }
+    ensures { Told reconstruct_answer samples_after (record { samples = samples.entry.now; plane = record { width = width; height = height; stride = stride }; x = x; y = y; size = tx_sz; tokens = tokens.now; dc = record { 0 = dc_quant }; ac = record { 0 = ac_quant }; tx_type = tx_type; lossless = lossless; depth = bit_depth }) result samples.exit.now }
 {
     let a = reconstruct::reconstruct_block(
         samples,
@@ -250,7 +250,7 @@ pub extern "C" fn bracetwill_forward_wht_2d(block: &mut [i64]) -> u32
 // The forward DCT of a block, in whole numbers.
 #[unsafe(no_mangle)]
 pub extern "C" fn bracetwill_forward_dct_2d(block: &mut [i64], n: u32) -> u32
-    ensures { Told dctAnswer dctAfter (record { block = block.entry.now; n = n }) result block.exit.now }
+    ensures { Told dct_answer dct_after (record { block = block.entry.now; n = n }) result block.exit.now }
 {
     let a = fwd_dct::forward_dct_2d(block, n);
     answers::code(a)
@@ -265,7 +265,7 @@ pub extern "C" fn bracetwill_quantize_block_tx(
     tx_sz: u32,
     bit_depth: u32,
 ) -> u32
-    ensures { Told quantizeAnswer coefs_after (record { coefs = coefs.entry.now; dc = record { 0 = dc_quant }; ac = record { 0 = ac_quant }; size = tx_sz; depth = bit_depth }) result coefs.exit.now }
+    ensures { Told quantize_answer coefs_after (record { coefs = coefs.entry.now; dc = record { 0 = dc_quant }; ac = record { 0 = ac_quant }; size = tx_sz; depth = bit_depth }) result coefs.exit.now }
 {
     let a = fwd_transform::quantize_block_tx(
         coefs,
@@ -280,7 +280,7 @@ pub extern "C" fn bracetwill_quantize_block_tx(
 // Coefficients to tokens, at size 0 and depth 8.
 #[unsafe(no_mangle)]
 pub extern "C" fn bracetwill_quantize_block(coefs: &mut [i64], dc_quant: i32, ac_quant: i32) -> u32
-    ensures { Told quantizeAnswer coefs_after (record { coefs = coefs.entry.now; dc = record { 0 = dc_quant }; ac = record { 0 = ac_quant }; size = 0; depth = 8 }) result coefs.exit.now }
+    ensures { Told quantize_answer coefs_after (record { coefs = coefs.entry.now; dc = record { 0 = dc_quant }; ac = record { 0 = ac_quant }; size = 0; depth = 8 }) result coefs.exit.now }
 {
     let a = fwd_transform::quantize_block(coefs, DcQuant(dc_quant), AcQuant(ac_quant));
     answers::code(a)
