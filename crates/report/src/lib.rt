@@ -119,9 +119,10 @@ pub fn reconstruct_block_report(
             samples, plane, tx_sz, tokens, dc_quant, ac_quant, tx_type, lossless, bit_depth,
         );
     }
-    reconstruct::reconstruct_block(
+    let answer = reconstruct::reconstruct_block(
         samples, plane, x, y, tx_sz, tokens, dc_quant, ac_quant, tx_type, lossless, bit_depth,
-    )?;
+    );
+    answer?;
     count::count_tokens(counts, sums, tx_sz, tokens);
     Ok(())
 }

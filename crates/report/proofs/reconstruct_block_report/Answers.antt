@@ -51,13 +51,13 @@ passed : (c : Else-bad_report) → bad_total (length c.args.tokens.now) c.args.c
 passed c = sym c.bad_report.ensures ∙ c.if-bad_report.false
 
 -- reconstruction refuses
-pub returns-in_err-reconstruct_block : goal.returns-in_err-reconstruct_block
-returns-in_err-reconstruct_block c =
-    let u = input (goal.at.returns-in_err-reconstruct_block c).Start in
+pub returns-in_err-answer : goal.returns-in_err-answer
+returns-in_err-answer c =
+    let u = input (goal.at.returns-in_err-answer c).Start in
     let p = err_from_is_err_and c.from_residual.result c.from_residual.ensures.1 in
-    let r = c.in_err-reconstruct_block.ensures in
-    let e = passes u (passed (goal.at.returns-in_err-reconstruct_block c).Else-bad_report) in
-    let ne : answer_of u ≡ 0 → ⊥ = λ z. refused_number c.in_err-reconstruct_block.field-0.0 (r.answered ∙ e ∙ z) in
+    let r = c.in_err-answer.ensures in
+    let e = passes u (passed (goal.at.returns-in_err-answer c).Else-bad_report) in
+    let ne : answer_of u ≡ 0 → ⊥ = λ z. refused_number c.in_err-answer.field-0.0 (r.answered ∙ e ∙ z) in
     rw (p.1, p.2) (record {
       answered = r.answered ∙ e;
       written = r.written ∙ same_samples u e;
@@ -68,14 +68,14 @@ returns-in_err-reconstruct_block c =
 pub count_tokens-requires : goal.count_tokens-requires
 count_tokens-requires c =
     let a = c.args in
-    let g = good (block (goal.at.count_tokens-requires c).Start) (sym c.in_ok-reconstruct_block.ensures.answered) in
+    let g = good (block (goal.at.count_tokens-requires c).Start) (sym c.in_ok-answer.ensures.answered) in
     (g.size_ok, g.length_ok, g.taken, room (length a.tokens.now) a.counts.now a.sums.now (passed (goal.at.count_tokens-requires c).Else-bad_report))
 
 pub returns : goal.returns
 returns c =
     let a = c.args in
     let u = input (goal.at.returns c).Start in
-    let r = c.in_ok-reconstruct_block.ensures in
+    let r = c.in_ok-answer.ensures in
     let e = passes u (passed (goal.at.returns c).Else-bad_report) in
     let z = sym e ∙ sym r.answered in
     record {
