@@ -107,6 +107,7 @@ fn stage4(t: &mut [i64; 32], n: u32)
 }
 
 // 5a. n of 4 or more: B(n0 - n + 2 - i - n2 j, n1 + n - 3 + i + n2 j, 24 + 48j, 1) for i = 0 to 0, for n = 5 to 1, j = 0 to 1.
+#[tactic(auto, using(crate::proofs::Dct::quarter, whole::proofs::Steps::loops))]
 fn stage5a(t: &mut [i64; 32], n: usize, n0: usize)
     requires { (4 ≤ n) × (n ≤ 5) × (16 ≤ n0) × (n0 ≤ 32) × Ok step (Fine (2 ^ 46)) (each (n / 5 + 1) (λ i. each 2 (turn5a n n0 i))) t.old }
     ensures { t.new ≡ run step (each (n / 5 + 1) (λ i. each 2 (turn5a n n0 i))) t.old }
@@ -126,6 +127,7 @@ fn stage5a(t: &mut [i64; 32], n: usize, n0: usize)
 }
 
 // 5b. n of 4 or more: H(n1 + n2 j + i, n1 + n2 - 1 + n2 j - i, j & 1) for i = 0 to 2n - 7, j = 0 to 1.
+#[tactic(auto, using(crate::proofs::Dct::quarter, whole::proofs::Steps::loops))]
 fn stage5b(t: &mut [i64; 32], n: usize, n0: usize)
     requires { (4 ≤ n) × (n ≤ 5) × (16 ≤ n0) × (n0 ≤ 32) × Ok step (Fine (2 ^ 46)) (each (2 * n - 6) (λ i. each 2 (turn5b n0 i))) t.old }
     ensures { t.new ≡ run step (each (2 * n - 6) (λ i. each 2 (turn5b n0 i))) t.old }

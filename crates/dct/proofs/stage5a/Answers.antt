@@ -9,24 +9,7 @@ use Rattle.whole.specs.Steps.{run, each}
 use Rattle.whole.proofs.Steps.{each_more, ok_turn, ok_here}
 use Rattle.steps.specs.Step.{step}
 use Rattle.dct.specs.Dct.{turn5a}
-use Rattle.dct.proofs.Dct.{quarter}
 use Rattle.dct.proofs.stage5a.Goals as goal
-
-pub overflow_mul-n0 : goal.overflow_mul-n0
-overflow_mul-n0 c =
-    omega (arith, quarter c.args.n0 c.loop-j.j (omega arith) (omega arith))
-
-pub overflow_sub-n0-in-loop-j-2 : goal.overflow_sub-n0-in-loop-j-2
-overflow_sub-n0-in-loop-j-2 c =
-    omega (arith, quarter c.args.n0 c.loop-j.j (omega arith) (omega arith))
-
-pub overflow_mul-n0-in-loop-j : goal.overflow_mul-n0-in-loop-j
-overflow_mul-n0-in-loop-j c =
-    omega (arith, quarter c.args.n0 c.loop-j.j (omega arith) (omega arith))
-
-pub overflow_add-n0-in-loop-j-3 : goal.overflow_add-n0-in-loop-j-3
-overflow_add-n0-in-loop-j-3 c =
-    omega (arith, quarter c.args.n0 c.loop-j.j (omega arith) (omega arith))
 
 pub butterfly-requires : goal.butterfly-requires
 butterfly-requires c =
