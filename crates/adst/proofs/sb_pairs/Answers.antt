@@ -1,20 +1,15 @@
 -- `adst::sb_pairs` meets its contract.
 use mathlib.Core.Path.{ap}
-use Prim.Native.Nat.{ℕ, ◌<◌}
 use native.Mathlib.Omega.{arith}
-use lib.IntN.{pos}
 use mir.Facts.{to_z-of_z}
 use mir.Syntax.{w32}
-use Rattle.whole.specs.Within.{Within}
 use Rattle.whole.specs.Steps.{run}
 use Rattle.whole.proofs.Signed.{loc, ◌⊖◌, ◌⊗◌, fits, value}
 use Rattle.whole.proofs.Steps.{each_more, ok_turn, ok_here}
 use Rattle.steps.specs.Step2.{step2}
 use Rattle.adst.specs.Inner.{arrays, sb_pair}
+use Rattle.adst.proofs.Angles.{turn}
 use Rattle.adst.proofs.sb_pairs.Goals as goal
-
-turn : (i : ℕ) → i < 8 → Within 8 (pos i)
-turn i h = record { hi = omega arith; lo = omega arith }
 
 pub overflow_cast-i : goal.overflow_cast-i
 overflow_cast-i c = fits w32 (loc (turn c.loop-i.i (omega arith))) tt
