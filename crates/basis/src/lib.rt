@@ -130,5 +130,5 @@ pub fn entry(basis: &[i16; 1024], j: usize) -> i64
     requires { j < 1024 }
     ensures { (result ≡ get_or basis.now j (pos 0)) × Within 32768 result }
 {
-    basis[j] as i64
+    i64::from(basis[j])
 }

@@ -6,7 +6,7 @@ use Prim.Native.Nat.{ℕ, zero, suc, ◌-◌, ◌*◌, ◌/◌, ◌^◌, ◌≤�
 use native.Mathlib.Nat.{mul-le-mul}
 use native.Mathlib.Numerals.{sub-one}
 use native.Mathlib.Omega.{arith}
-use lib.Dec.{T}
+use lib.Dec.{T, lit≤}
 use lib.IntN.{ℤ, pos, ◌*ℤ◌}
 use lib.Pow.{pow_pos}
 use lib.ListN.{get_or, replicate}
@@ -57,6 +57,12 @@ two_to_five P a b c d (suc (suc (suc zero))) l h = b
 two_to_five P a b c d (suc (suc (suc (suc zero)))) l h = c
 two_to_five P a b c d (suc (suc (suc (suc (suc zero))))) l h = d
 two_to_five P a b c d (suc (suc (suc (suc (suc (suc n)))))) l h = absurd (omega arith)
+
+-- 2^n, from below
+pub at_least : (n : ℕ) → 2 ≤ n → n ≤ 5 → (4 ≤ 2 ^ n) × (4 ≤ n → 16 ≤ 2 ^ n)
+at_least =
+    two_to_five (λ n. (4 ≤ 2 ^ n) × (4 ≤ n → 16 ≤ 2 ^ n)) (lit≤ tt, λ h. omega arith) (lit≤ tt, λ h. omega arith) (lit≤ tt, λ h. lit≤ tt)
+    (lit≤ tt, λ h. lit≤ tt)
 
 -- ---- computed of the four lists of steps
 dct_writes : (n : ℕ) → 2 ≤ n → n ≤ 5 → T (every (writes (2 ^ n)) (dct_row n))

@@ -1,4 +1,4 @@
-#![tactic(auto)]
+#![tactic(auto, using(whole::proofs::Steps::loops))]
 
 ghost use Rattle.std.specs.Prelude.{◌≡◌, true, ℕ, ◌+◌, ◌-◌, ◌*◌, ◌/◌, ◌^◌, ◌≤◌, ◌<◌, pos, ◌-ℤ◌, ◌+ℤ◌};
 ghost use Rattle.whole.specs.Steps.{run, each};
@@ -8,13 +8,8 @@ ghost use Rattle.steps.specs.Step.{Move, step};
 ghost use Rattle.steps.specs.Inner.{Fine};
 ghost use Rattle.dct.specs.Dct.{turn4a, turn4b, turn5a, turn5b, steps2, steps3, steps4, steps5, steps6, steps7, tail, dct_steps};
 
-// n0 = 2^n, the count of numbers.
-fn side(n: u32) -> usize
-    requires { (2 ≤ n) × (n ≤ 5) }
-    ensures { (result ≡ 2 ^ n) × (4 ≤ result) × (result ≤ 32) × (4 ≤ n → 16 ≤ result) }
-{
-    1usize << n
-}
+use answers::side;
+use primitives::{brev, butterfly, hadamard};
 
 // The permutation, §8.7.1.2: t[i] = copy_t[brev(n, i)].
 pub fn idct_permute(t: &mut [i64; 32], n: u32)
@@ -22,9 +17,8 @@ pub fn idct_permute(t: &mut [i64; 32], n: u32)
     ensures { t.new ≡ step (Move (2 ^ n) (Brev n)) t.old }
 {
     let copy_t = *t;
-    let n0 = side(n);
-    for i in 0..n0 {
-        t[i] = copy_t[primitives::brev(n, i)];
+    for i in 0..side(n) {
+        t[i] = copy_t[brev(n, i)];
     }
 }
 
@@ -33,7 +27,7 @@ fn angle2(x: usize) -> i32
     requires { x < 32 }
     ensures { result ≡ pos 32 -ℤ pos (Brev 5 x) }
 {
-    32 - primitives::brev(5, x) as i32
+    32 - brev(5, x) as i32
 }
 
 // 2. B(n1 + i, n0 - 1 - i, 32 - brev(5, n1 + i), 0) for i = 0 to n2 - 1.
@@ -43,7 +37,7 @@ fn stage2(t: &mut [i64; 32], n0: usize)
 {
     for i in 0..n0 / 4 {
         let angle = angle2(n0 / 2 + i);
-        primitives::butterfly(t, n0 / 2 + i, n0 - 1 - i, angle, false);
+        butterfly(t, n0 / 2 + i, n0 - 1 - i, angle, false);
     }
 }
 
@@ -57,7 +51,7 @@ fn stage3(t: &mut [i64; 32], n: u32, n0: usize)
     }
     for i in 0..n0 / 8 {
         for j in 0..2 {
-            primitives::hadamard(
+            hadamard(
                 t,
                 n0 / 2 + 4 * i + 2 * j,
                 n0 / 2 + 1 + 4 * i + 2 * j,
@@ -83,7 +77,7 @@ fn stage4a(t: &mut [i64; 32])
     for i in 0..2 {
         for j in 0..2 {
             let angle = angle4(i, j);
-            primitives::butterfly(t, 30 - 8 * j - 4 * i, 17 + 8 * j + 4 * i, angle, true);
+            butterfly(t, 30 - 8 * j - 4 * i, 17 + 8 * j + 4 * i, angle, true);
         }
     }
 }
@@ -95,7 +89,7 @@ fn stage4b(t: &mut [i64; 32])
 {
     for i in 0..2 {
         for j in 0..4 {
-            primitives::hadamard(t, 16 + 4 * j + i, 19 + 4 * j - i, j % 2 != 0);
+            hadamard(t, 16 + 4 * j + i, 19 + 4 * j - i, j % 2 != 0);
         }
     }
 }
@@ -113,6 +107,7 @@ fn stage4(t: &mut [i64; 32], n: u32)
 }
 
 // 5a. n of 4 or more: B(n0 - n + 2 - i - n2 j, n1 + n - 3 + i + n2 j, 24 + 48j, 1) for i = 0 to 0, for n = 5 to 1, j = 0 to 1.
+#[tactic(auto, using(crate::proofs::Dct::quarter, whole::proofs::Steps::loops))]
 fn stage5a(t: &mut [i64; 32], n: usize, n0: usize)
     requires { (4 ≤ n) × (n ≤ 5) × (16 ≤ n0) × (n0 ≤ 32) × Ok step (Fine (2 ^ 46)) (each (n / 5 + 1) (λ i. each 2 (turn5a n n0 i))) t.old }
     ensures { t.new ≡ run step (each (n / 5 + 1) (λ i. each 2 (turn5a n n0 i))) t.old }
@@ -120,7 +115,7 @@ fn stage5a(t: &mut [i64; 32], n: usize, n0: usize)
     for i in 0..n / 5 + 1 {
         for j in 0..2 {
             let angle = (24 + 48 * j) as i32;
-            primitives::butterfly(
+            butterfly(
                 t,
                 n0 - n + 2 - i - n0 / 4 * j,
                 n0 / 2 + n - 3 + i + n0 / 4 * j,
@@ -132,13 +127,14 @@ fn stage5a(t: &mut [i64; 32], n: usize, n0: usize)
 }
 
 // 5b. n of 4 or more: H(n1 + n2 j + i, n1 + n2 - 1 + n2 j - i, j & 1) for i = 0 to 2n - 7, j = 0 to 1.
+#[tactic(auto, using(crate::proofs::Dct::quarter, whole::proofs::Steps::loops))]
 fn stage5b(t: &mut [i64; 32], n: usize, n0: usize)
     requires { (4 ≤ n) × (n ≤ 5) × (16 ≤ n0) × (n0 ≤ 32) × Ok step (Fine (2 ^ 46)) (each (2 * n - 6) (λ i. each 2 (turn5b n0 i))) t.old }
     ensures { t.new ≡ run step (each (2 * n - 6) (λ i. each 2 (turn5b n0 i))) t.old }
 {
     for i in 0..2 * n - 6 {
         for j in 0..2 {
-            primitives::hadamard(
+            hadamard(
                 t,
                 n0 / 2 + n0 / 4 * j + i,
                 n0 / 2 + n0 / 4 - 1 + n0 / 4 * j - i,
@@ -169,7 +165,7 @@ fn stage6(t: &mut [i64; 32], n: u32, n0: usize)
         return;
     }
     for i in 0..n0 / 8 {
-        primitives::butterfly(t, n0 - n0 / 8 - 1 - i, n0 / 2 + n0 / 8 + i, 16, true);
+        butterfly(t, n0 - n0 / 8 - 1 - i, n0 / 2 + n0 / 8 + i, 16, true);
     }
 }
 
@@ -179,7 +175,7 @@ fn stage7(t: &mut [i64; 32], n0: usize)
     ensures { t.new ≡ run step (steps7 n0) t.old }
 {
     for i in 0..n0 / 2 {
-        primitives::hadamard(t, i, n0 - 1 - i, false);
+        hadamard(t, i, n0 - 1 - i, false);
     }
 }
 
@@ -198,16 +194,14 @@ fn stages(t: &mut [i64; 32], n: u32)
 }
 
 // The recursive process, §8.7.1.3, of the permuted numbers: n falls to 2.
-pub fn inverse_dct(t: [i64; 32], n: u32) -> [i64; 32]
+pub fn inverse_dct(mut t: [i64; 32], n: u32) -> [i64; 32]
     requires { (2 ≤ n) × (n ≤ 5) × Ok step (Fine (2 ^ 46)) (dct_steps n) t }
     ensures { result ≡ run step (dct_steps n) t }
 {
-    let mut t = t;
     if n == 2 {
-        primitives::butterfly(&mut t, 0, 1, 16, true);
+        butterfly(&mut t, 0, 1, 16, true);
     } else {
-        let r = inverse_dct(t, n - 1);
-        t = r;
+        t = inverse_dct(t, n - 1);
     }
     stages(&mut t, n);
     t

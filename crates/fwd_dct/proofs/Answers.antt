@@ -59,13 +59,15 @@ module _ (u : Input) where
     pub middle_range : FirstWithin (2 ^ 31) (area u.n) (rows (line_of u.n) (side u.n) u.block)
     middle_range = record { each = λ k q. within_le (omega arith) ((rows_within u.n (sized z).0 (sized z).1 RESIDUAL_LIMIT u.block room (in_range z)).each k q) }
 
-    pub last_room : area u.n ≤ length (columns (line_of u.n) (λ z. z) (side u.n) (rows (line_of u.n) (side u.n) u.block))
-    last_room = rw (columns_length (line_of u.n) (λ z. z) (side u.n) (rows (line_of u.n) (side u.n) u.block)) middle_room
+    pub last_count : length (columns (line_of u.n) (λ z. z) (side u.n) (rows (line_of u.n) (side u.n) u.block)) ≡ area u.n
+    last_count =
+        columns_length (line_of u.n) (λ z. z) (side u.n) (rows (line_of u.n) (side u.n) u.block) ∙ rows_length (line_of u.n) (side u.n) u.block ∙ counted z
 
     pub last_range : FirstWithin (2 ^ 62) (area u.n) (columns (line_of u.n) (λ z. z) (side u.n) (rows (line_of u.n) (side u.n) u.block))
     last_range = record { each = λ k q. within_le (omega arith) ((columns_within u.n (sized z).0 (sized z).1 (2 ^ 31) (rows (line_of u.n) (side u.n) u.block) middle_room middle_range).each k q) }
 
     -- what the steps of the call come to
-    pub in_steps : (r c after : List ℤ) (count shift : ℕ) → r ≡ rows (line_of u.n) (side u.n) u.block → c ≡ columns (line_of u.n) (λ z. z) (side u.n) r
-        → count ≡ area u.n → shift ≡ bits u.n → after ≡ fill count (λ k. Round2 (get_or c k (pos 0)) shift) c → after ≡ block_after u
-    in_steps r c after count shift p q e f g = g ∙ rw (e, f, q, p) (whole u.n (sized z).0 (sized z).1 u.block (counted z) ∙ done z)
+    pub in_steps : (r c after : List ℤ) (shift : ℕ) → r ≡ rows (line_of u.n) (side u.n) u.block → c ≡ columns (line_of u.n) (λ z. z) (side u.n) r
+        → shift ≡ bits u.n → after ≡ fill (length c) (λ k. Round2 (get_or c k (pos 0)) shift) c → after ≡ block_after u
+    in_steps r c after shift p q f g =
+        g ∙ rw (q, p, last_count, f) (whole u.n (sized z).0 (sized z).1 u.block (counted z) ∙ done z)

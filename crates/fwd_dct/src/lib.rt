@@ -11,9 +11,9 @@ ghost use Rattle.blocks.specs.Block.{rows, columns};
 ghost use Rattle.blocks.specs.Inner.{change_line, FirstWithin};
 ghost use Rattle.fwd_dct.specs.Sum.{sum};
 ghost use Rattle.fwd_dct.specs.Forward.{RESIDUAL_LIMIT, bits, answer_of, Transformed};
-ghost use Rattle.fwd_dct.specs.Inner.{line_of};
+ghost use Rattle.fwd_dct.specs.Inner.{line_of, first_lines};
 
-use answers::{Answer, any_beyond, area, bad_side, code, side};
+use answers::{Answer, Refusal, any_beyond, area, bad_side, side};
 use basis::{entry, stride, table};
 use primitives::round2;
 
@@ -94,15 +94,25 @@ fn line(block: &mut [i64], basis: &[i16; 1024], start: usize, step: usize, n: u3
     }
 }
 
+// All lines: the first begins at place 0, each other `next` past the one before, and its numbers are `step` apart.
+fn each_line(block: &mut [i64], basis: &[i16; 1024], n: u32, next: usize, step: usize)
+    requires size { (2 ≤ n) × (n ≤ 5) × (next ≤ 32) }
+    requires basis { basis.now ≡ table }
+    requires places { (i k : ℕ) → i < side n → k < side n → i * next + k * step < length block.old }
+    requires range { (i k : ℕ) → i < side n → k < side n → Within (2 ^ 31) (get_or (first_lines n next step i block.old) (i * next + k * step) (pos 0)) }
+    ensures { block.new ≡ first_lines n next step (side n) block.old }
+{
+    for i in 0..side(n) {
+        line(block, basis, i * next, step, n);
+    }
+}
+
 // All rows.
 fn rows(block: &mut [i64], basis: &[i16; 1024], n: u32)
     requires { (2 ≤ n) × (n ≤ 5) × (basis.now ≡ table) × (area n ≤ length block.old) × FirstWithin (2 ^ 31) (area n) block.old }
     ensures { block.new ≡ rows (line_of n) (side n) block.old }
 {
-    let n0 = side(n);
-    for i in 0..n0 {
-        line(block, basis, i * n0, 1, n);
-    }
+    each_line(block, basis, n, side(n), 1);
 }
 
 // All columns.
@@ -110,19 +120,16 @@ fn columns(block: &mut [i64], basis: &[i16; 1024], n: u32)
     requires { (2 ≤ n) × (n ≤ 5) × (basis.now ≡ table) × (area n ≤ length block.old) × FirstWithin (2 ^ 31) (area n) block.old }
     ensures { block.new ≡ columns (line_of n) (λ z. z) (side n) block.old }
 {
-    let n0 = side(n);
-    for j in 0..n0 {
-        line(block, basis, j, n0, n);
-    }
+    each_line(block, basis, n, 1, side(n));
 }
 
 // Every number rounded, once.
-fn round_all(block: &mut [i64], count: usize, shift: u32)
-    requires { (count ≤ length block.old) × (1 ≤ «shift») × («shift» ≤ 30) × FirstWithin (2 ^ 62) count block.old }
-    ensures { block.new ≡ fill count (λ k. Round2 (get_or block.old k (pos 0)) «shift») block.old }
+fn round_all(block: &mut [i64], shift: u32)
+    requires { (1 ≤ «shift») × («shift» ≤ 30) × FirstWithin (2 ^ 62) (length block.old) block.old }
+    ensures { block.new ≡ fill (length block.old) (λ k. Round2 (get_or block.old k (pos 0)) «shift») block.old }
 {
-    for k in 0..count {
-        block[k] = round2(block[k], shift);
+    for x in block.iter_mut() {
+        *x = round2(*x, shift);
     }
 }
 
@@ -131,29 +138,26 @@ fn check(block: &[i64], n: u32) -> Answer
     ensures { number result ≡ answer_of (record { block = block.entry.now; n = n }) }
 {
     if bad_side(n) {
-        return Answer::Size;
+        return Err(Refusal::Size);
     }
     let count = block.len();
     if count != area(n) {
-        return Answer::Length;
+        return Err(Refusal::Length);
     }
     if any_beyond(block, count, RESIDUAL_LIMIT) {
-        return Answer::Coefficient;
+        return Err(Refusal::Coefficient);
     }
-    Answer::Done
+    Ok(())
 }
 
 // The coefficients of a block of residuals, in its place.
 pub fn forward_dct_2d(block: &mut [i64], n: u32) -> Answer
     ensures { Transformed (record { block = block.entry.now; n = n }) result block.exit.now }
 {
-    let answer = check(block, n);
-    if code(answer) != 0 {
-        return answer;
-    }
+    check(block, n)?;
     let basis = table();
     rows(block, &basis, n);
     columns(block, &basis, n);
-    round_all(block, area(n), bits(n));
-    answer
+    round_all(block, bits(n));
+    Ok(())
 }

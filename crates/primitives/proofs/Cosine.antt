@@ -6,16 +6,17 @@ use native.Mathlib.Decide.{dec_lt}
 use native.Mathlib.Nat as NatL
 use native.Mathlib.Omega.{arith}
 use lib.Dec.{T, leb, eqb, eqb→eq}
-use lib.IntN.{ℤ, pos, negsuc, neg_ℤ, ◌+ℤ◌, ◌-ℤ◌}
+use lib.IntN.{ℤ, pos, negsuc, neg_ℤ, ◌-ℤ◌}
 use lib.ListN.{get_or}
 use borrow.Author.Tests.{le-leb, lt-leb, lt-ltb, le-ltb, eq-eqb, ne_eqb}
+use mir.Syntax.{w32}
+use Rattle.std.specs.Int.{int_wrap, cast_signed}
 use Rattle.whole.specs.Parts.{P, N}
 use Rattle.whole.specs.Within.{Within}
 use Rattle.whole.proofs.Tests.{both, all_below, below, b₁, b₂}
 use Rattle.whole.proofs.Parts.{sum_parts, eq_parts, neg_P, neg_N}
 use Rattle.whole.proofs.Within.{within_neg, within_cond, table_within}
 use Rattle.primitives.specs.Cosine.{cos64_lookup, modulo, cos_at, Cos64, Sin64}
-use Rattle.primitives.specs.Inner.{wrap32}
 
 -- ---- the remainder
 -- z is its remainder and a multiple of m, which is q_p m z − q_n m z
@@ -45,33 +46,16 @@ module _ (m : ℕ) (h : 0 < m) where
   modulo_same y z j k e =
       alone (modulo m y) (modulo m z) (q_p m y + q_n m z + j) (q_n m y + q_p m z + k) (modulo_lt y) (modulo_lt z) (omega (arith, split y, split z))
 
--- ---- the wrap-around of i32: a multiple of 2^32 changes nothing, and within the range it is the number itself
-pub wrap_less : (z : ℤ) → wrap32 (z -ℤ pos 4294967296) ≡ wrap32 z
-unfolding wrap32
-wrap_less z = rw (modulo_same 4294967296 (omega arith) (z -ℤ pos 4294967296) z 1 0 (omega (arith, sum_parts z (negsuc 4294967295))))
-
-pub wrap_more : (z : ℤ) → wrap32 (z +ℤ pos 4294967296) ≡ wrap32 z
-unfolding wrap32
-wrap_more z = rw (modulo_same 4294967296 (omega arith) (z +ℤ pos 4294967296) z 0 1 (omega (arith, sum_parts z (pos 4294967296))))
-
-pub wrap_in : (z : ℤ) → P z < 2147483648 → N z ≤ 2147483648 → wrap32 z ≡ z
-unfolding wrap32
-wrap_in (pos a) h k = let e : a % 4294967296 ≡ a = omega arith in rw (e, lt-ltb a 2147483648 h)
-wrap_in (negsuc a) h k =
-    let e : a % 4294967296 ≡ a = omega arith in
-    let f : 4294967295 - (4294967295 - a) ≡ a = omega arith in
-    rw (e, le-ltb (4294967295 - a) 2147483648 (omega arith), f)
-
--- 128 divides 2^32
-wrap_split : (m : ℕ) → m < 4294967296 → modulo 128 (cond (lib.Dec.ltb m 2147483648) (pos m) (negsuc (4294967295 - m))) ≡ m % 128
+-- ---- the wrap-around of i32: 128 divides 2^32, so it changes no remainder by 128
+wrap_split : (m : ℕ) → m < 4294967296 → modulo 128 (cast_signed w32 m) ≡ m % 128
 wrap_split m h = go (dec_lt m 2147483648)
   where
-    go : Dec (m < 2147483648) → modulo 128 (cond (lib.Dec.ltb m 2147483648) (pos m) (negsuc (4294967295 - m))) ≡ m % 128
+    go : Dec (m < 2147483648) → modulo 128 (cast_signed w32 m) ≡ m % 128
     go (yes l) = rw (lt-ltb m 2147483648 l)
     go (no l) = rw (le-ltb m 2147483648 (omega arith)) (omega arith)
 
-pub modulo_wrap : (z : ℤ) → modulo 128 (wrap32 z) ≡ modulo 128 z
-unfolding wrap32
+pub modulo_wrap : (z : ℤ) → modulo 128 (int_wrap w32 z) ≡ modulo 128 z
+unfolding int_wrap
 modulo_wrap (pos a) = wrap_split (a % 4294967296) (omega arith) ∙ omega arith
 modulo_wrap (negsuc a) = wrap_split (4294967295 - a % 4294967296) (omega arith) ∙ omega arith
 
@@ -112,7 +96,7 @@ unfolding Sin64
 sin_within g = cos_within (g -ℤ pos 32)
 
 -- the wrapped difference has the same cosine, so sin64 is right at every i32 angle
-pub sin_wrap : (z : ℤ) → Cos64 (wrap32 (z -ℤ pos 32)) ≡ Sin64 z
+pub sin_wrap : (z : ℤ) → Cos64 (int_wrap w32 (z -ℤ pos 32)) ≡ Sin64 z
 unfolding Cos64 Sin64
 sin_wrap z = ap cos_at (modulo_wrap (z -ℤ pos 32))
 

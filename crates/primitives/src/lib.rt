@@ -1,12 +1,12 @@
 #![tactic(auto)]
 
-ghost use Rattle.std.specs.Prelude.{◌≡◌, ℕ, ◌+◌, ◌-◌, ◌*◌, ◌^◌, ◌≤◌, ◌<◌, pos, ◌-ℤ◌, get_or};
+ghost use Rattle.std.specs.Prelude.{◌≡◌, ℕ, ◌+◌, ◌-◌, ◌*◌, ◌^◌, ◌≤◌, ◌<◌, pos, get_or};
 ghost use Rattle.whole.specs.Round.{Round2};
 ghost use Rattle.whole.specs.Within.{Within};
 ghost use Rattle.primitives.specs.Brev.{Brev};
 ghost use Rattle.primitives.specs.Cosine.{cos64_lookup, modulo, Cos64, Sin64};
-ghost use Rattle.primitives.specs.Inner.{wrap32, Turned};
-ghost use Rattle.primitives.specs.Rotations.{apply_b, apply_h, apply_sb, apply_sh};
+ghost use Rattle.primitives.specs.Inner.{Turned};
+ghost use Rattle.primitives.specs.Rotations.{set_pair, apply_b, apply_h, apply_sb, apply_sh};
 
 // COS64_LOOKUP: entry i is round(16384 cos(i π / 64)). By arms, because an array constant is built anew at each run-time index.
 fn cos64_lookup(i: usize) -> i64
@@ -77,12 +77,7 @@ pub fn brev(num_bits: u32, x: usize) -> usize
 fn modulo128(angle: i32) -> usize
     ensures { (result ≡ modulo 128 angle) × (result < 128) }
 {
-    let r = angle % 128;
-    if r < 0 {
-        (r + 128) as usize
-    } else {
-        r as usize
-    }
+    angle.rem_euclid(128) as usize
 }
 
 // round(16384 cos(angle π / 64)), from the quarter wave.
@@ -90,37 +85,19 @@ pub fn cos64(angle: i32) -> i64
     ensures { (result ≡ Cos64 angle) × Within 16384 result }
 {
     let angle2 = modulo128(angle);
-    if angle2 <= 32 {
-        return cos64_lookup(angle2);
+    match angle2 {
+        0..=32 => cos64_lookup(angle2),
+        33..=64 => -cos64_lookup(64 - angle2),
+        65..=96 => -cos64_lookup(angle2 - 64),
+        _ => cos64_lookup(128 - angle2),
     }
-    if angle2 <= 64 {
-        return -cos64_lookup(64 - angle2);
-    }
-    if angle2 <= 96 {
-        return -cos64_lookup(angle2 - 64);
-    }
-    cos64_lookup(128 - angle2)
-}
-
-// The difference a - b with wrap-around.
-pub fn wrapping_sub_i32(a: i32, b: i32) -> i32
-    ensures { result ≡ wrap32 (a -ℤ b) }
-{
-    let d = (a as i64) - (b as i64);
-    if d > 2147483647 {
-        return (d - 4294967296) as i32;
-    }
-    if d < -2147483648 {
-        return (d + 4294967296) as i32;
-    }
-    d as i32
 }
 
 // round(16384 sin(angle π / 64)).
 pub fn sin64(angle: i32) -> i64
     ensures { (result ≡ Sin64 angle) × Within 16384 result }
 {
-    cos64(wrapping_sub_i32(angle, 32))
+    cos64(angle.wrapping_sub(32))
 }
 
 // The two values of a rotation.
@@ -156,21 +133,23 @@ fn turn(p: i64, q: i64, angle: i32) -> Rotated
     }
 }
 
+// x to place a and y to place b; flip exchanges the two.
+pub fn put_pair<const N: usize>(t: &mut [i64; N], a: usize, b: usize, x: i64, y: i64, flip: bool)
+    requires { (a < N) × (b < N) }
+    ensures { t.new ≡ set_pair t.old a b x y flip }
+{
+    let (x, y) = if flip { (y, x) } else { (x, y) };
+    t[a] = x;
+    t[b] = y;
+}
+
 // B(a, b, angle, flip) on t.
 pub fn butterfly(t: &mut [i64; 32], a: usize, b: usize, angle: i32, flip: bool)
     requires { (a < 32) × (b < 32) × Within (2 ^ 46) (get_or t.old a (pos 0)) × Within (2 ^ 46) (get_or t.old b (pos 0)) }
     ensures { t.new ≡ apply_b t.old a b angle flip }
 {
     let r = turn(t[a], t[b], angle);
-    let x = r.x;
-    let y = r.y;
-    if flip {
-        t[a] = y;
-        t[b] = x;
-    } else {
-        t[a] = x;
-        t[b] = y;
-    }
+    put_pair(t, a, b, r.x, r.y, flip);
 }
 
 // H(a, b, flip) on t; flip exchanges the roles of a and b.
@@ -178,15 +157,11 @@ pub fn hadamard(t: &mut [i64; 32], a: usize, b: usize, flip: bool)
     requires { (a < 32) × (b < 32) × Within (2 ^ 46) (get_or t.old a (pos 0)) × Within (2 ^ 46) (get_or t.old b (pos 0)) }
     ensures { t.new ≡ apply_h t.old a b flip }
 {
+    let (a, b) = if flip { (b, a) } else { (a, b) };
     let x = t[a];
     let y = t[b];
-    if flip {
-        t[b] = y + x;
-        t[a] = y - x;
-    } else {
-        t[a] = x + y;
-        t[b] = x - y;
-    }
+    t[a] = x + y;
+    t[b] = x - y;
 }
 
 // SB(a, b, angle, flip): the products of t, not rounded, into s.
@@ -200,13 +175,7 @@ pub fn sb(t: &[i64; 32], s: &mut [i64; 16], a: usize, b: usize, angle: i32, flip
     let d = sin64(angle);
     let x = p * c - q * d;
     let y = p * d + q * c;
-    if flip {
-        s[a] = y;
-        s[b] = x;
-    } else {
-        s[a] = x;
-        s[b] = y;
-    }
+    put_pair(s, a, b, x, y, flip);
 }
 
 // SH(a, b): sum and difference of s, rounded, into t.

@@ -32,7 +32,7 @@ fill_two g u i {y} {z} p q =
     subst (λ (k : ℕ). z ≡ fill k g u) e (fill_more g u (2 * i + 1) (fill_more g u (2 * i) p refl) q)
 
 pub loop-i-init : goal.loop-i-init
-loop-i-init c = (omega arith, fill_none _ _)
+loop-i-init c = fill_none _ _
 
 pub loop-i-preserved : goal.loop-i-preserved
 loop-i-preserved c =
@@ -41,11 +41,11 @@ loop-i-preserved c =
     let t = c.args.t.now in
     let e = rd_ok w64 {z = get_or t (c.side-n0.result - 1 - 2 * i) (pos 0)} c.t-1.given in
     let f = rd_ok w64 {z = get_or t (2 * i) (pos 0)} c.t-in-loop-i-1.given in
-    (omega arith, fill_two (λ k. get_or t (adst_in n k) (pos 0)) t i c.loop-i.invariant.1 (rw (e, f, c.side-n0.ensures.0, from_end n i, from_start n i)))
+    fill_two (λ k. get_or t (adst_in n k) (pos 0)) t i c.loop-i.invariant (rw (e, f, c.side-n0.ensures.0, from_end n i, from_start n i))
 
 pub returns : goal.returns
 unfolding step move
 returns c =
     let n = c.args.n in
     let h = two_halves n (omega arith) in
-    fill_done _ _ (2 * c.loop-i.i) (2 ^ n) (omega (arith, c.side-n0.ensures.0, h)) (omega (arith, c.side-n0.ensures.0, h)) c.loop-i.invariant.1
+    fill_done _ _ (2 * c.loop-i.i) (2 ^ n) (omega (arith, c.side-n0.ensures.0, h)) (omega (arith, c.side-n0.ensures.0, h)) c.loop-i.invariant

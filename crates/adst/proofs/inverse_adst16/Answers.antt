@@ -1,141 +1,238 @@
 -- `adst::inverse_adst16` meets its contract: each call runs its stage, and the rest is left.
+use mathlib.Core.Path.{◌≡◌, refl}
 use mathlib.Core.List.{List, [], ◌∷◌}
 use Prim.Native.Nat.{◌^◌}
+use native.Mathlib.Omega.{arith}
 use lib.IntN.{ℤ, pos}
 use lib.ListN.{replicate}
 use Rattle.whole.specs.Steps.{◌⨾◌, run, each}
 use Rattle.whole.proofs.Steps.{Left, left_all, left_stage, left_first}
-use Rattle.steps.specs.Step.{Move}
-use Rattle.steps.specs.Step2.{Arrays, Step2, step2, fresh}
+use Rattle.whole.proofs.Within.{within_lit}
+use Rattle.steps.specs.Step.{Step, Move}
+use Rattle.steps.specs.Step2.{Step2, step2, fresh}
 use Rattle.steps.specs.Inner.{Fine2}
-use Rattle.adst.specs.Adst.{adst_in, adst_out, on_t, sixteen2, sixteen3, sixteen4, sixteen5, sixteen6, sixteen7, sixteen8, sixteen9, sixteen10, sixteen12, adst16_steps}
-use Rattle.adst.specs.Inner.{arrays}
+use Rattle.adst.specs.Adst.{adst_in, adst_out, on_t, sixteen10, adst16_steps}
+use Rattle.adst.specs.Inner.{arrays, sb_pair, sb_cross, sh_half, hadamard_half, negated}
 use Rattle.adst.proofs.Lift.{on_ok, left_on, last_on}
 use Rattle.adst.proofs.inverse_adst16.Lts as lts
 use Rattle.adst.proofs.inverse_adst16.Tie as tie
 use Rattle.adst.proofs.inverse_adst16.Reads as reads
 use Rattle.adst.proofs.inverse_adst16.Goals as goal
-use Rattle.adst.proofs.inverse_adst16.Goals.{After-adst16_stage10, After-adst16_stage3, After-adst16_stage5, After-adst16_stage6, After-adst16_stage8, After-adst16_stage9, After-adst_input_permute, After-adst_output_permute, Start}
+use Rattle.adst.proofs.inverse_adst16.Goals.{After-adst16_stage10, After-adst_input_permute, After-adst_output_permute, After-hadamard_halves, After-hadamard_halves-2, After-hadamard_halves-3, After-negate_every_other, After-negate_every_other-2, After-sh_halves, After-sh_halves-2, After-sh_halves-3, After-sh_halves-4, Start}
 
 -- the place behind a call, with what was known there
-abbrev After-adst16_stage2 : Type 0
-After-adst16_stage2 = lts.After-adst16_stage2 tie.the-claims reads.Pre reads.Post
+abbrev After-sb_pairs : Type 0
+After-sb_pairs = lts.After-sb_pairs tie.the-claims reads.Pre reads.Post
 
 -- the place behind a call, with what was known there
-abbrev After-adst16_stage4 : Type 0
-After-adst16_stage4 = lts.After-adst16_stage4 tie.the-claims reads.Pre reads.Post
+abbrev After-sb_pairs-2 : Type 0
+After-sb_pairs-2 = lts.After-sb_pairs2 tie.the-claims reads.Pre reads.Post
 
 -- the place behind a call, with what was known there
-abbrev After-adst16_stage7 : Type 0
-After-adst16_stage7 = lts.After-adst16_stage7 tie.the-claims reads.Pre reads.Post
+abbrev After-sb_crossed : Type 0
+After-sb_crossed = lts.After-sb_crossed tie.the-claims reads.Pre reads.Post
 
--- what is left to run after each call
+-- the place behind a call, with what was known there
+abbrev After-sb_crossed-2 : Type 0
+After-sb_crossed-2 = lts.After-sb_crossed2 tie.the-claims reads.Pre reads.Post
+
+-- what each call runs, and what is left to run after it
+abbrev x1 : List Step
+x1 = Move 16 (adst_in 4) ∷ []
+
+abbrev x2 : List Step2
+x2 = each 8 (sb_pair 0 (pos 31) (pos 4))
+
+abbrev x3 : List Step2
+x3 = each 8 (sh_half 0 8)
+
+abbrev x4 : List Step2
+x4 = each 4 (sb_pair 8 (pos 28) (pos 16))
+
+abbrev x5 : List Step2
+x5 = each 4 (sh_half 8 4)
+
+abbrev x6 : List Step
+x6 = each 4 (hadamard_half 0 4)
+
+abbrev x7 : List Step2
+x7 = each 2 (sb_cross 4)
+
+abbrev x8 : List Step2
+x8 = each 2 (sb_cross 12)
+
+abbrev x9 : List Step2
+x9 = each 2 (sh_half 4 2)
+
+abbrev x10 : List Step2
+x10 = each 2 (sh_half 12 2)
+
+abbrev x11 : List Step
+x11 = each 2 (hadamard_half 0 2)
+
+abbrev x12 : List Step
+x12 = each 2 (hadamard_half 8 2)
+
+abbrev x13 : List Step
+x13 = each 2 (λ i. each 2 (sixteen10 i))
+
+abbrev x14 : List Step
+x14 = Move 16 (adst_out 4) ∷ []
+
+abbrev x15 : List Step
+x15 = each 2 (negated 1)
+
+abbrev x16 : List Step
+x16 = each 2 (negated 13)
+
+abbrev r15 : List Step2
+r15 = on_t x16
+
+abbrev r14 : List Step2
+r14 = on_t x15 ⨾ r15
+
+abbrev r13 : List Step2
+r13 = on_t x14 ⨾ r14
+
+abbrev r12 : List Step2
+r12 = on_t x13 ⨾ r13
+
 abbrev r11 : List Step2
-r11 = on_t (each 2 (λ j. each 2 (sixteen12 j)))
+r11 = on_t x12 ⨾ r12
 
 abbrev r10 : List Step2
-r10 = on_t (Move 16 (adst_out 4) ∷ []) ⨾ r11
+r10 = on_t x11 ⨾ r11
 
 abbrev r9 : List Step2
-r9 = on_t (each 2 (λ i. each 2 (sixteen10 i))) ⨾ r10
+r9 = x10 ⨾ r10
 
 abbrev r8 : List Step2
-r8 = on_t (each 2 (λ j. each 2 (sixteen9 j))) ⨾ r9
+r8 = x9 ⨾ r9
 
 abbrev r7 : List Step2
-r7 = (each 2 (λ j. each 2 (sixteen8 j))) ⨾ r8
+r7 = x8 ⨾ r8
 
 abbrev r6 : List Step2
-r6 = (each 2 (λ i. each 2 (sixteen7 i))) ⨾ r7
+r6 = x7 ⨾ r7
 
 abbrev r5 : List Step2
-r5 = on_t (each 4 sixteen6) ⨾ r6
+r5 = on_t x6 ⨾ r6
 
 abbrev r4 : List Step2
-r4 = (each 4 sixteen5) ⨾ r5
+r4 = x5 ⨾ r5
 
 abbrev r3 : List Step2
-r3 = (each 4 sixteen4) ⨾ r4
+r3 = x4 ⨾ r4
 
 abbrev r2 : List Step2
-r2 = (each 8 sixteen3) ⨾ r3
+r2 = x3 ⨾ r3
 
 abbrev r1 : List Step2
-r1 = (each 8 sixteen2) ⨾ r2
+r1 = x2 ⨾ r2
 
-abbrev Rest : List Step2 → List ℤ → List ℤ → Arrays → Type 0
-Rest ss t s g = Left step2 (Fine2 (2 ^ 46)) ss (arrays t s) g
+abbrev r0 : List Step2
+r0 = on_t x1 ⨾ r1
 
-abbrev end_line : Start → Arrays
-end_line c = run step2 adst16_steps (fresh c.args.t.now)
+-- together they are the process
+process : adst16_steps ≡ r0
+unfolding adst16_steps on_t each
+process = refl
 
-left0 : (c : Start) → Left step2 (Fine2 (2 ^ 46)) adst16_steps (fresh c.args.t.now) (end_line c)
-left0 c = left_all c.requires
+abbrev Rest : List Step2 → List ℤ → List ℤ → List ℤ → Type 0
+Rest ss t s u = Left step2 (Fine2 (2 ^ 46)) ss (arrays t s) (run step2 adst16_steps (fresh u))
 
-left1 : (c : After-adst_input_permute) → Rest r1 c.adst_input_permute.new.t (replicate 16 (pos 0)) (end_line c.before.before)
-unfolding run adst16_steps fresh
-left1 c = left_on (2 ^ 46) (Move 16 (adst_in 4) ∷ []) r1 (left0 c.before.before) c.adst_input_permute.ensures
+left0 : (c : Start) → Rest r0 c.args.t.now (replicate 16 (pos 0)) c.args.t.now
+unfolding fresh
+left0 c = rw (← process) (left_all c.requires)
 
-left2 : (c : After-adst16_stage2) → Rest r2 c.adst_input_permute.new.t c.adst16_stage2.new.s (end_line c.before.before.before.before)
-left2 c = left_stage (each 8 sixteen2) r2 (left1 c.before.before) c.adst16_stage2.ensures
-
-left3 : (c : After-adst16_stage3) → Rest r3 c.adst16_stage3.new.t c.adst16_stage2.new.s (end_line c.before.before.before.before.before.before.before)
-left3 c = left_stage (each 8 sixteen3) r3 (left2 c.before.before.before) c.adst16_stage3.ensures
-
-left4 : (c : After-adst16_stage4) → Rest r4 c.adst16_stage3.new.t c.adst16_stage4.new.s (end_line c.before.before.before.before.before.before.before.before.before)
-left4 c = left_stage (each 4 sixteen4) r4 (left3 c.before.before) c.adst16_stage4.ensures
-
-left5 : (c : After-adst16_stage5) → Rest r5 c.adst16_stage5.new.t c.adst16_stage4.new.s (end_line c.before.before.before.before.before.before.before.before.before.before.before.before)
-left5 c = left_stage (each 4 sixteen5) r5 (left4 c.before.before.before) c.adst16_stage5.ensures
-
-left6 : (c : After-adst16_stage6) → Rest r6 c.adst16_stage6.new.t c.adst16_stage4.new.s (end_line c.before.before.before.before.before.before.before.before.before.before.before.before.before.before)
-left6 c = left_on (2 ^ 46) (each 4 sixteen6) r6 (left5 c.before.before) c.adst16_stage6.ensures
-
-left7 : (c : After-adst16_stage7) → Rest r7 c.adst16_stage6.new.t c.adst16_stage7.new.s (end_line c.before.before.before.before.before.before.before.before.before.before.before.before.before.before.before.before)
-left7 c = left_stage (each 2 (λ i. each 2 (sixteen7 i))) r7 (left6 c.before.before) c.adst16_stage7.ensures
-
-left8 : (c : After-adst16_stage8) → Rest r8 c.adst16_stage8.new.t c.adst16_stage7.new.s (end_line c.before.before.before.before.before.before.before.before.before.before.before.before.before.before.before.before.before.before.before)
-left8 c = left_stage (each 2 (λ j. each 2 (sixteen8 j))) r8 (left7 c.before.before.before) c.adst16_stage8.ensures
-
-left9 : (c : After-adst16_stage9) → Rest r9 c.adst16_stage9.new.t c.adst16_stage7.new.s (end_line c.before.before.before.before.before.before.before.before.before.before.before.before.before.before.before.before.before.before.before.before.before)
-left9 c = left_on (2 ^ 46) (each 2 (λ j. each 2 (sixteen9 j))) r9 (left8 c.before.before) c.adst16_stage9.ensures
-
-left10 : (c : After-adst16_stage10) → Rest r10 c.adst16_stage10.new.t c.adst16_stage7.new.s (end_line c.before.before.before.before.before.before.before.before.before.before.before.before.before.before.before.before.before.before.before.before.before.before.before)
-left10 c = left_on (2 ^ 46) (each 2 (λ i. each 2 (sixteen10 i))) r10 (left9 c.before.before) c.adst16_stage10.ensures
-
-left11 : (c : After-adst_output_permute) → Rest r11 c.adst_output_permute.new.t c.adst16_stage7.new.s (end_line c.before.before.before.before.before.before.before.before.before.before.before.before.before.before.before.before.before.before.before.before.before.before.before.before.before)
+left1 : (c : After-adst_input_permute) → Rest r1 c.adst_input_permute.new.t (replicate 16 (pos 0)) c.args.t.now
 unfolding run
-left11 c = left_on (2 ^ 46) (Move 16 (adst_out 4) ∷ []) r11 (left10 c.before.before) c.adst_output_permute.ensures
+left1 c = left_on (2 ^ 46) x1 r1 (left0 c.before.before) c.adst_input_permute.ensures
 
-pub adst16_stage2-requires : goal.adst16_stage2-requires
-adst16_stage2-requires c = left_first (each 8 sixteen2) r2 (left1 c.before)
+left2 : (c : After-sb_pairs) → Rest r2 c.adst_input_permute.new.t c.sb_pairs.new.s c.args.t.now
+left2 c = left_stage x2 r2 (left1 c.before.before) c.sb_pairs.ensures
 
-pub adst16_stage3-requires : goal.adst16_stage3-requires
-adst16_stage3-requires c = left_first (each 8 sixteen3) r3 (left2 c.before.before)
+left3 : (c : After-sh_halves) → Rest r3 c.sh_halves.new.t c.sb_pairs.new.s c.args.t.now
+left3 c = left_stage x3 r3 (left2 c.before.before.before) c.sh_halves.ensures
 
-pub adst16_stage4-requires : goal.adst16_stage4-requires
-adst16_stage4-requires c = left_first (each 4 sixteen4) r4 (left3 c.before)
+left4 : (c : After-sb_pairs-2) → Rest r4 c.sh_halves.new.t c.sb_pairs-2.new.s c.args.t.now
+left4 c = left_stage x4 r4 (left3 c.before.before) c.sb_pairs-2.ensures
 
-pub adst16_stage5-requires : goal.adst16_stage5-requires
-adst16_stage5-requires c = left_first (each 4 sixteen5) r5 (left4 c.before.before)
+left5 : (c : After-sh_halves-2) → Rest r5 c.sh_halves-2.new.t c.sb_pairs-2.new.s c.args.t.now
+left5 c = left_stage x5 r5 (left4 c.before.before.before) c.sh_halves-2.ensures
 
-pub adst16_stage6-requires : goal.adst16_stage6-requires
-adst16_stage6-requires c = on_ok (2 ^ 46) (each 4 sixteen6) (left_first (on_t (each 4 sixteen6)) r6 (left5 c.before))
+left6 : (c : After-hadamard_halves) → Rest r6 c.hadamard_halves.new.t c.sb_pairs-2.new.s c.args.t.now
+left6 c = left_on (2 ^ 46) x6 r6 (left5 c.before.before) c.hadamard_halves.ensures
 
-pub adst16_stage7-requires : goal.adst16_stage7-requires
-adst16_stage7-requires c = left_first (each 2 (λ i. each 2 (sixteen7 i))) r7 (left6 c.before)
+left7 : (c : After-sb_crossed) → Rest r7 c.hadamard_halves.new.t c.sb_crossed.new.s c.args.t.now
+left7 c = left_stage x7 r7 (left6 c.before.before) c.sb_crossed.ensures
 
-pub adst16_stage8-requires : goal.adst16_stage8-requires
-adst16_stage8-requires c = left_first (each 2 (λ j. each 2 (sixteen8 j))) r8 (left7 c.before.before)
+left8 : (c : After-sb_crossed-2) → Rest r8 c.hadamard_halves.new.t c.sb_crossed-2.new.s c.args.t.now
+left8 c = left_stage x8 r8 (left7 c.before.before) c.sb_crossed-2.ensures
 
-pub adst16_stage9-requires : goal.adst16_stage9-requires
-adst16_stage9-requires c = on_ok (2 ^ 46) (each 2 (λ j. each 2 (sixteen9 j))) (left_first (on_t (each 2 (λ j. each 2 (sixteen9 j)))) r9 (left8 c.before))
+left9 : (c : After-sh_halves-3) → Rest r9 c.sh_halves-3.new.t c.sb_crossed-2.new.s c.args.t.now
+left9 c = left_stage x9 r9 (left8 c.before.before.before) c.sh_halves-3.ensures
+
+left10 : (c : After-sh_halves-4) → Rest r10 c.sh_halves-4.new.t c.sb_crossed-2.new.s c.args.t.now
+left10 c = left_stage x10 r10 (left9 c.before.before.before) c.sh_halves-4.ensures
+
+left11 : (c : After-hadamard_halves-2) → Rest r11 c.hadamard_halves-2.new.t c.sb_crossed-2.new.s c.args.t.now
+left11 c = left_on (2 ^ 46) x11 r11 (left10 c.before.before) c.hadamard_halves-2.ensures
+
+left12 : (c : After-hadamard_halves-3) → Rest r12 c.hadamard_halves-3.new.t c.sb_crossed-2.new.s c.args.t.now
+left12 c = left_on (2 ^ 46) x12 r12 (left11 c.before.before) c.hadamard_halves-3.ensures
+
+left13 : (c : After-adst16_stage10) → Rest r13 c.adst16_stage10.new.t c.sb_crossed-2.new.s c.args.t.now
+left13 c = left_on (2 ^ 46) x13 r13 (left12 c.before.before) c.adst16_stage10.ensures
+
+left14 : (c : After-adst_output_permute) → Rest r14 c.adst_output_permute.new.t c.sb_crossed-2.new.s c.args.t.now
+unfolding run
+left14 c = left_on (2 ^ 46) x14 r14 (left13 c.before.before) c.adst_output_permute.ensures
+
+left15 : (c : After-negate_every_other) → Rest r15 c.negate_every_other.new.t c.sb_crossed-2.new.s c.args.t.now
+left15 c = left_on (2 ^ 46) x15 r15 (left14 c.before.before) c.negate_every_other.ensures
+
+pub sb_pairs-requires : goal.sb_pairs-requires
+sb_pairs-requires c = (omega arith, omega arith, within_lit 128 (pos 31) tt, within_lit 16 (pos 4) tt, left_first x2 r2 (left1 c.before))
+
+pub sh_halves-requires : goal.sh_halves-requires
+sh_halves-requires c = (omega arith, omega arith, left_first x3 r3 (left2 c.before.before))
+
+pub sb_pairs-requires-2 : goal.sb_pairs-requires-2
+sb_pairs-requires-2 c = (omega arith, omega arith, within_lit 128 (pos 28) tt, within_lit 16 (pos 16) tt, left_first x4 r4 (left3 c.before))
+
+pub sh_halves-requires-2 : goal.sh_halves-requires-2
+sh_halves-requires-2 c = (omega arith, omega arith, left_first x5 r5 (left4 c.before.before))
+
+pub hadamard_halves-requires : goal.hadamard_halves-requires
+hadamard_halves-requires c = (omega arith, omega arith, on_ok (2 ^ 46) x6 (left_first (on_t x6) r6 (left5 c.before)))
+
+pub sb_crossed-requires : goal.sb_crossed-requires
+sb_crossed-requires c = (omega arith, left_first x7 r7 (left6 c.before))
+
+pub sb_crossed-requires-2 : goal.sb_crossed-requires-2
+sb_crossed-requires-2 c = (omega arith, left_first x8 r8 (left7 c.before))
+
+pub sh_halves-requires-3 : goal.sh_halves-requires-3
+sh_halves-requires-3 c = (omega arith, omega arith, left_first x9 r9 (left8 c.before.before))
+
+pub sh_halves-requires-4 : goal.sh_halves-requires-4
+sh_halves-requires-4 c = (omega arith, omega arith, left_first x10 r10 (left9 c.before.before))
+
+pub hadamard_halves-requires-2 : goal.hadamard_halves-requires-2
+hadamard_halves-requires-2 c = (omega arith, omega arith, on_ok (2 ^ 46) x11 (left_first (on_t x11) r11 (left10 c.before)))
+
+pub hadamard_halves-requires-3 : goal.hadamard_halves-requires-3
+hadamard_halves-requires-3 c = (omega arith, omega arith, on_ok (2 ^ 46) x12 (left_first (on_t x12) r12 (left11 c.before)))
 
 pub adst16_stage10-requires : goal.adst16_stage10-requires
-adst16_stage10-requires c = on_ok (2 ^ 46) (each 2 (λ i. each 2 (sixteen10 i))) (left_first (on_t (each 2 (λ i. each 2 (sixteen10 i)))) r10 (left9 c.before))
+adst16_stage10-requires c = on_ok (2 ^ 46) x13 (left_first (on_t x13) r13 (left12 c.before))
 
-pub adst16_stage12-requires : goal.adst16_stage12-requires
-adst16_stage12-requires c = on_ok (2 ^ 46) (each 2 (λ j. each 2 (sixteen12 j))) (left11 c.before).ok
+pub negate_every_other-requires : goal.negate_every_other-requires
+negate_every_other-requires c = (omega arith, omega arith, on_ok (2 ^ 46) x15 (left_first (on_t x15) r15 (left14 c.before)))
+
+pub negate_every_other-requires-2 : goal.negate_every_other-requires-2
+negate_every_other-requires-2 c = (omega arith, omega arith, on_ok (2 ^ 46) x16 (left15 c.before).ok)
 
 pub returns : goal.returns
-returns c = last_on (2 ^ 46) (each 2 (λ j. each 2 (sixteen12 j))) (left11 c.before.before) c.adst16_stage12.ensures
+returns c = last_on (2 ^ 46) x16 (left15 c.before.before) c.negate_every_other-2.ensures

@@ -44,48 +44,6 @@ module _ (t : List ℤ) (h : FourWithin (2 ^ 46) t) where
   last_within =
       subst (Within (2 ^ 62)) (sym (value w64 (x0 ⊕ x1 ⊖ x3) tt)) (within_le (lit≤ tt) (sum_within (val a) (val b) (val c') (val d) h.0 h.1 h.2 h.3))
 
-pub overflow_mul-s0 : goal.overflow_mul-s0
-overflow_mul-s0 c = let t = c.args.t.now in let h = c.requires in fits w64 (lit (pos 5283) ⊗ a t h) tt
-
-pub overflow_mul-s1 : goal.overflow_mul-s1
-overflow_mul-s1 c = let t = c.args.t.now in let h = c.requires in fits w64 (lit (pos 9929) ⊗ a t h) tt
-
-pub overflow_mul-s2 : goal.overflow_mul-s2
-overflow_mul-s2 c = let t = c.args.t.now in let h = c.requires in fits w64 (x3 t h) tt
-
-pub overflow_mul-s3 : goal.overflow_mul-s3
-overflow_mul-s3 c = let t = c.args.t.now in let h = c.requires in fits w64 (lit (pos 15212) ⊗ c' t h) tt
-
-pub overflow_mul-s4 : goal.overflow_mul-s4
-overflow_mul-s4 c = let t = c.args.t.now in let h = c.requires in fits w64 (lit (pos 5283) ⊗ c' t h) tt
-
-pub overflow_mul-s5 : goal.overflow_mul-s5
-overflow_mul-s5 c = let t = c.args.t.now in let h = c.requires in fits w64 (lit (pos 9929) ⊗ d t h) tt
-
-pub overflow_mul-s6 : goal.overflow_mul-s6
-overflow_mul-s6 c = let t = c.args.t.now in let h = c.requires in fits w64 (lit (pos 15212) ⊗ d t h) tt
-
-pub overflow_sub-v : goal.overflow_sub-v
-overflow_sub-v c = let t = c.args.t.now in let h = c.requires in fits w64 (a t h ⊖ c' t h) tt
-
-pub overflow_add-v : goal.overflow_add-v
-overflow_add-v c = let t = c.args.t.now in let h = c.requires in fits w64 (a t h ⊖ c' t h ⊕ d t h) tt
-
-pub overflow_mul-s7 : goal.overflow_mul-s7
-overflow_mul-s7 c = let t = c.args.t.now in let h = c.requires in fits w64 (x2 t h) tt
-
-pub overflow_add-x0 : goal.overflow_add-x0
-overflow_add-x0 c = let t = c.args.t.now in let h = c.requires in fits w64 (lit (pos 5283) ⊗ a t h ⊕ lit (pos 15212) ⊗ c' t h) tt
-
-pub overflow_add-x0-2 : goal.overflow_add-x0-2
-overflow_add-x0-2 c = let t = c.args.t.now in let h = c.requires in fits w64 (x0 t h) tt
-
-pub overflow_sub-x1 : goal.overflow_sub-x1
-overflow_sub-x1 c = let t = c.args.t.now in let h = c.requires in fits w64 (lit (pos 9929) ⊗ a t h ⊖ lit (pos 5283) ⊗ c' t h) tt
-
-pub overflow_sub-x1-2 : goal.overflow_sub-x1-2
-overflow_sub-x1-2 c = let t = c.args.t.now in let h = c.requires in fits w64 (x1 t h) tt
-
 pub overflow_add-x0-3 : goal.overflow_add-x0-3
 overflow_add-x0-3 c = let t = c.args.t.now in let h = c.requires in fits w64 (x0 t h ⊕ x3 t h) tt
 

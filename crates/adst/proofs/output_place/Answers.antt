@@ -22,39 +22,9 @@ in16 c = subst (λ (n : ℕ). c.args.k < 2 ^ n) c.if-n-eq4.true c.requires.2
 in8 : (c : Else-n-eq4) → c.args.k < 8
 in8 c = let e : c.args.n ≡ 3 = omega (arith, c.if-n-eq4.false) in subst (λ (n : ℕ). c.args.k < 2 ^ n) e c.requires.2
 
-pub overflow_mul-result : goal.overflow_mul-result
-overflow_mul-result c = let k = c.args.k in omega (arith, lt16 k (in16 c))
-
-pub overflow_mul-result-then-n-eq4 : goal.overflow_mul-result-then-n-eq4
-overflow_mul-result-then-n-eq4 c = let k = c.args.k in omega (arith, lt16 k (in16 c))
-
-pub overflow_add-result : goal.overflow_add-result
-overflow_add-result c = let k = c.args.k in omega (arith, lt16 k (in16 c))
-
-pub overflow_mul-result-then-n-eq4-2 : goal.overflow_mul-result-then-n-eq4-2
-overflow_mul-result-then-n-eq4-2 c = let k = c.args.k in omega (arith, lt16 k (in16 c))
-
-pub overflow_add-result-then-n-eq4 : goal.overflow_add-result-then-n-eq4
-overflow_add-result-then-n-eq4 c = let k = c.args.k in omega (arith, lt16 k (in16 c))
-
-pub overflow_add-result-then-n-eq4-2 : goal.overflow_add-result-then-n-eq4-2
-overflow_add-result-then-n-eq4-2 c = let k = c.args.k in omega (arith, lt16 k (in16 c))
-
 pub returns-then-n-eq4 : goal.returns-then-n-eq4
 unfolding adst_out out16
 returns-then-n-eq4 c = let s = c.args in (rw (eq-eqb s.n 4 c.if-n-eq4.true), lt16 s.k (in16 c))
-
-pub overflow_mul-result-2 : goal.overflow_mul-result-2
-overflow_mul-result-2 c = let k = c.args.k in omega (arith, lt8 k (in8 c))
-
-pub overflow_mul-result-3 : goal.overflow_mul-result-3
-overflow_mul-result-3 c = let k = c.args.k in omega (arith, lt8 k (in8 c))
-
-pub overflow_add-result-2 : goal.overflow_add-result-2
-overflow_add-result-2 c = let k = c.args.k in omega (arith, lt8 k (in8 c))
-
-pub overflow_add-result-3 : goal.overflow_add-result-3
-overflow_add-result-3 c = let k = c.args.k in omega (arith, lt8 k (in8 c))
 
 pub returns : goal.returns
 unfolding adst_out out8

@@ -30,7 +30,7 @@ rest t c =
     let go = left_stage (dct_steps (n - 1)) (tail n) (all n c.args.t c.requires.0 c.requires.2) in
     elim c.if-n-eq2.branch [
       | then-n-eq2 w ↦ go (w.t-is ∙ one n c.args.t w.if-n-eq2.true w.butterfly.ensures)
-      | else-n-eq2 w ↦ go (w.t-is ∙ w.inverse_dct-r.ensures)
+      | else-n-eq2 w ↦ go (w.t-is ∙ w.inverse_dct-t.ensures)
     ]
 
 pub butterfly-requires : goal.butterfly-requires
@@ -38,8 +38,8 @@ butterfly-requires t c =
     let n = c.args.n in
     ok_here (rw (dct_first n c.if-n-eq2.true) at (left_first (dct_steps (n - 1)) (tail n) (all n c.args.t c.requires.0 c.requires.2)))
 
-pub inverse_dct-r-requires : goal.inverse_dct-r-requires
-inverse_dct-r-requires t c =
+pub inverse_dct-t-requires : goal.inverse_dct-t-requires
+inverse_dct-t-requires t c =
     let n = c.args.n in
     (omega arith, (omega arith, omega arith, left_first (dct_steps (n - 1)) (tail n) (all n c.args.t c.requires.0 c.requires.2)))
 

@@ -1,5 +1,4 @@
 use mathlib.Core.Path.{◌≡◌}
-use Prim.Native.Nat.{◌≤◌, ◌-◌}
 use lib.IntN.{pos}
 use Rattle.primitives.specs.Brev.{Brev}
 use lib.ListN.{get_or}
@@ -7,7 +6,4 @@ use Rattle.whole.specs.Lists.{fill}
 use Rattle.dct.proofs.idct_permute.Given as goal
 
 abbrev pub invariant-loop-i : goal.invariant-loop-i
-invariant-loop-i l = (l.i ≤ l.n0) × (l.t ≡ fill l.i (λ k. get_or l.initial.t (Brev l.n k) (pos 0)) l.initial.t)
-
-abbrev pub decreases-loop-i : goal.decreases-loop-i
-decreases-loop-i l = l.n0 - l.i
+invariant-loop-i l = l.t ≡ fill l.i (λ k. get_or l.initial.t (Brev l.n k) (pos 0)) l.initial.t

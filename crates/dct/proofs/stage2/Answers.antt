@@ -12,17 +12,14 @@ use Rattle.dct.proofs.stage2.Goals as goal
 pub butterfly-requires : goal.butterfly-requires
 unfolding steps2
 butterfly-requires c =
-    ok_here (ok_turn (turn2 c.args.n0) (c.args.n0 / 4) c.requires.2 c.loop-i.i (omega arith) c.loop-i.invariant.1)
+    ok_here (ok_turn (turn2 c.args.n0) (c.args.n0 / 4) c.requires.2 c.loop-i.i (omega arith) c.loop-i.invariant)
 
 pub loop-i-preserved : goal.loop-i-preserved
 unfolding run step
 loop-i-preserved c =
     let a = c.angle2-angle in
-    (omega arith, each_more step _ _ _ c.loop-i.invariant.1 (rw (rd_ok w32 a.type_inv, a.ensures) at c.butterfly.ensures))
+    each_more step _ _ _ c.loop-i.invariant (rw (rd_ok w32 a.type_inv, a.ensures) at c.butterfly.ensures)
 
 pub returns : goal.returns
 unfolding steps2
 returns c = search (rules, loops)
-
-pub loop-i-init : goal.loop-i-init
-loop-i-init c = search (rules, loops)

@@ -1,32 +1,19 @@
 use native.Mathlib.Omega.{arith}
-use borrow.Author.Rules.{rules}
 use mir.Syntax.{w32}
 use Rattle.whole.specs.Steps.{run, each}
 use Rattle.whole.proofs.Signed.{rd_ok}
-use Rattle.whole.proofs.Steps.{each_more, ok_turn, ok_here, loops}
+use Rattle.whole.proofs.Steps.{each_more, ok_turn, ok_here}
 use Rattle.steps.specs.Step.{step}
 use Rattle.dct.specs.Dct.{turn4a}
 use Rattle.dct.proofs.stage4a.Goals as goal
 
 pub butterfly-requires : goal.butterfly-requires
 butterfly-requires c =
-    let one = ok_turn (λ i. each 2 (turn4a 5 32 i)) 2 c.requires c.loop-i.i (omega arith) c.loop-i.invariant.1 in
-    ok_here (ok_turn (turn4a 5 32 c.loop-i.i) 2 one c.loop-j.j (omega arith) c.loop-j.invariant.1)
+    let one = ok_turn (λ i. each 2 (turn4a 5 32 i)) 2 c.requires c.loop-i.i (omega arith) c.loop-i.invariant in
+    ok_here (ok_turn (turn4a 5 32 c.loop-i.i) 2 one c.loop-j.j (omega arith) c.loop-j.invariant)
 
 pub loop-j-preserved : goal.loop-j-preserved
 unfolding run step
 loop-j-preserved c =
     let a = c.angle4-angle in
-    (omega arith, each_more step _ _ _ c.loop-j.invariant.1 (rw (rd_ok w32 a.type_inv, a.ensures) at c.butterfly.ensures))
-
-pub loop-i-init : goal.loop-i-init
-loop-i-init c = search (rules, loops)
-
-pub loop-j-init : goal.loop-j-init
-loop-j-init c = search (rules, loops)
-
-pub loop-i-preserved : goal.loop-i-preserved
-loop-i-preserved c = search (rules, loops)
-
-pub returns : goal.returns
-returns c = search (rules, loops)
+    each_more step _ _ _ c.loop-j.invariant (rw (rd_ok w32 a.type_inv, a.ensures) at c.butterfly.ensures)

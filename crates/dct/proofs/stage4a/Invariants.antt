@@ -1,18 +1,11 @@
 use mathlib.Core.Path.{◌≡◌}
-use Prim.Native.Nat.{◌≤◌, ◌-◌}
 use Rattle.whole.specs.Steps.{run, each}
 use Rattle.steps.specs.Step.{step}
 use Rattle.dct.specs.Dct.{turn4a}
 use Rattle.dct.proofs.stage4a.Given as goal
 
 abbrev pub invariant-loop-j : goal.invariant-loop-j
-invariant-loop-j l = (l.j ≤ 2) × (l.t ≡ run step (each l.j (turn4a 5 32 l.i)) l.initial.t)
-
-abbrev pub decreases-loop-j : goal.decreases-loop-j
-decreases-loop-j l = 2 - l.j
+invariant-loop-j l = l.t ≡ run step (each l.j (turn4a 5 32 l.i)) l.initial.t
 
 abbrev pub invariant-loop-i : goal.invariant-loop-i
-invariant-loop-i l = (l.i ≤ 2) × (l.t ≡ run step (each l.i (λ i. each 2 (turn4a 5 32 i))) l.initial.t)
-
-abbrev pub decreases-loop-i : goal.decreases-loop-i
-decreases-loop-i l = 2 - l.i
+invariant-loop-i l = l.t ≡ run step (each l.i (λ i. each 2 (turn4a 5 32 i))) l.initial.t

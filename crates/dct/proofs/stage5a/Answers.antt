@@ -1,55 +1,25 @@
 use mathlib.Core.Path.{◌≡◌}
 use Prim.Native.Nat.{◌+◌, ◌*◌, ◌/◌}
 use native.Mathlib.Omega.{arith}
-use borrow.Author.Rules.{rules}
 use lib.IntN.{pos}
 use mir.Syntax.{w32}
 use mir.Val.{to_z}
 use mir.Facts.{to_z_pos}
 use Rattle.whole.specs.Steps.{run, each}
-use Rattle.whole.proofs.Steps.{each_more, ok_turn, ok_here, loops}
+use Rattle.whole.proofs.Steps.{each_more, ok_turn, ok_here}
 use Rattle.steps.specs.Step.{step}
 use Rattle.dct.specs.Dct.{turn5a}
-use Rattle.dct.proofs.Dct.{quarter}
 use Rattle.dct.proofs.stage5a.Goals as goal
-
-pub overflow_mul-n0 : goal.overflow_mul-n0
-overflow_mul-n0 c =
-    omega (arith, quarter c.args.n0 c.loop-j.j (omega arith) (omega arith))
-
-pub overflow_sub-n0-in-loop-j-2 : goal.overflow_sub-n0-in-loop-j-2
-overflow_sub-n0-in-loop-j-2 c =
-    omega (arith, quarter c.args.n0 c.loop-j.j (omega arith) (omega arith))
-
-pub overflow_mul-n0-in-loop-j : goal.overflow_mul-n0-in-loop-j
-overflow_mul-n0-in-loop-j c =
-    omega (arith, quarter c.args.n0 c.loop-j.j (omega arith) (omega arith))
-
-pub overflow_add-n0-in-loop-j-3 : goal.overflow_add-n0-in-loop-j-3
-overflow_add-n0-in-loop-j-3 c =
-    omega (arith, quarter c.args.n0 c.loop-j.j (omega arith) (omega arith))
 
 pub butterfly-requires : goal.butterfly-requires
 butterfly-requires c =
     let n = c.args.n in
     let n0 = c.args.n0 in
-    let one = ok_turn (λ i. each 2 (turn5a n n0 i)) (n / 5 + 1) c.requires.4 c.loop-i.i (omega arith) c.loop-i.invariant.1 in
-    ok_here (ok_turn (turn5a n n0 c.loop-i.i) 2 one c.loop-j.j (omega arith) c.loop-j.invariant.1)
+    let one = ok_turn (λ i. each 2 (turn5a n n0 i)) (n / 5 + 1) c.requires.4 c.loop-i.i (omega arith) c.loop-i.invariant in
+    ok_here (ok_turn (turn5a n n0 c.loop-i.i) 2 one c.loop-j.j (omega arith) c.loop-j.invariant)
 
 pub loop-j-preserved : goal.loop-j-preserved
 unfolding run step
 loop-j-preserved c =
     let e : to_z w32 (24 + 48 * c.loop-j.j) ≡ pos (24 + 48 * c.loop-j.j) = to_z_pos w32 (omega arith) in
-    (omega arith, each_more step _ _ _ c.loop-j.invariant.1 (rw e at c.butterfly.ensures))
-
-pub loop-i-init : goal.loop-i-init
-loop-i-init c = search (rules, loops)
-
-pub loop-j-init : goal.loop-j-init
-loop-j-init c = search (rules, loops)
-
-pub loop-i-preserved : goal.loop-i-preserved
-loop-i-preserved c = search (rules, loops)
-
-pub returns : goal.returns
-returns c = search (rules, loops)
+    each_more step _ _ _ c.loop-j.invariant (rw e at c.butterfly.ensures)

@@ -1,52 +1,18 @@
 use Prim.Native.Nat.{◌-◌, ◌*◌}
 use native.Mathlib.Omega.{arith}
-use borrow.Author.Rules.{rules}
 use Rattle.whole.specs.Steps.{run, each}
-use Rattle.whole.proofs.Steps.{each_more, ok_turn, ok_here, loops}
+use Rattle.whole.proofs.Steps.{each_more, ok_turn, ok_here}
 use Rattle.steps.specs.Step.{step}
 use Rattle.dct.specs.Dct.{turn5b}
-use Rattle.dct.proofs.Dct.{quarter}
 use Rattle.dct.proofs.stage5b.Goals as goal
-
-pub overflow_mul-n0 : goal.overflow_mul-n0
-overflow_mul-n0 c =
-    omega (arith, quarter c.args.n0 c.loop-j.j (omega arith) (omega arith))
-
-pub overflow_add-n0 : goal.overflow_add-n0
-overflow_add-n0 c =
-    omega (arith, quarter c.args.n0 c.loop-j.j (omega arith) (omega arith))
-
-pub overflow_add-n0-in-loop-j : goal.overflow_add-n0-in-loop-j
-overflow_add-n0-in-loop-j c =
-    omega (arith, quarter c.args.n0 c.loop-j.j (omega arith) (omega arith))
-
-pub overflow_mul-n0-in-loop-j : goal.overflow_mul-n0-in-loop-j
-overflow_mul-n0-in-loop-j c =
-    omega (arith, quarter c.args.n0 c.loop-j.j (omega arith) (omega arith))
-
-pub overflow_add-n0-in-loop-j-3 : goal.overflow_add-n0-in-loop-j-3
-overflow_add-n0-in-loop-j-3 c =
-    omega (arith, quarter c.args.n0 c.loop-j.j (omega arith) (omega arith))
 
 pub hadamard-requires : goal.hadamard-requires
 hadamard-requires c =
     let n = c.args.n in
     let n0 = c.args.n0 in
-    let one = ok_turn (λ i. each 2 (turn5b n0 i)) (2 * n - 6) c.requires.4 c.loop-i.i (omega arith) c.loop-i.invariant.1 in
-    ok_here (ok_turn (turn5b n0 c.loop-i.i) 2 one c.loop-j.j (omega arith) c.loop-j.invariant.1)
+    let one = ok_turn (λ i. each 2 (turn5b n0 i)) (2 * n - 6) c.requires.4 c.loop-i.i (omega arith) c.loop-i.invariant in
+    ok_here (ok_turn (turn5b n0 c.loop-i.i) 2 one c.loop-j.j (omega arith) c.loop-j.invariant)
 
 pub loop-j-preserved : goal.loop-j-preserved
 unfolding run step
-loop-j-preserved c = (omega arith, each_more step _ _ _ c.loop-j.invariant.1 c.hadamard.ensures)
-
-pub loop-i-init : goal.loop-i-init
-loop-i-init c = search (rules, loops)
-
-pub loop-j-init : goal.loop-j-init
-loop-j-init c = search (rules, loops)
-
-pub loop-i-preserved : goal.loop-i-preserved
-loop-i-preserved c = search (rules, loops)
-
-pub returns : goal.returns
-returns c = search (rules, loops)
+loop-j-preserved c = each_more step _ _ _ c.loop-j.invariant c.hadamard.ensures

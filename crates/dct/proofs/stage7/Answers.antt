@@ -10,15 +10,12 @@ use Rattle.dct.proofs.stage7.Goals as goal
 pub hadamard-requires : goal.hadamard-requires
 unfolding steps7
 hadamard-requires c =
-    ok_here (ok_turn (turn7 c.args.n0) (c.args.n0 / 2) c.requires.2 c.loop-i.i (omega arith) c.loop-i.invariant.1)
+    ok_here (ok_turn (turn7 c.args.n0) (c.args.n0 / 2) c.requires.2 c.loop-i.i (omega arith) c.loop-i.invariant)
 
 pub loop-i-preserved : goal.loop-i-preserved
 unfolding run step
-loop-i-preserved c = (omega arith, each_more step _ _ _ c.loop-i.invariant.1 c.hadamard.ensures)
+loop-i-preserved c = each_more step _ _ _ c.loop-i.invariant c.hadamard.ensures
 
 pub returns : goal.returns
 unfolding steps7
 returns c = search (rules, loops)
-
-pub loop-i-init : goal.loop-i-init
-loop-i-init c = search (rules, loops)

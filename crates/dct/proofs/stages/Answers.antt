@@ -5,6 +5,7 @@ use Rattle.whole.proofs.Steps.{Left, left_all, left_stage, left_first, left_last
 use Rattle.steps.specs.Step.{Step, step}
 use Rattle.steps.specs.Inner.{Fine}
 use Rattle.dct.specs.Dct.{steps2, steps3, steps4, steps5, steps6, steps7, tail_at, tail}
+use Rattle.dct.proofs.Dct.{at_least}
 use Rattle.dct.proofs.stages.Goals as goal
 use Rattle.dct.proofs.stages.Goals.{After-side-n0, After-stage2, After-stage3, After-stage4, After-stage5, After-stage6}
 
@@ -54,14 +55,14 @@ stage2-requires c =
     let n = c.args.n in
     let n0 = c.side-n0.result in
     let e = c.side-n0.ensures in
-    (e.1, e.2, left_first (steps2 n0) (rest3 n n0) (at2 c.before))
+    (rw e.0 (at_least n c.requires.0 c.requires.1).0, e.1, left_first (steps2 n0) (rest3 n n0) (at2 c.before))
 
 pub stage3-requires : goal.stage3-requires
 stage3-requires c =
     let n = c.args.n in
     let n0 = c.side-n0.result in
     let e = c.side-n0.ensures in
-    (e.1, e.2, left_first (steps3 n n0) (rest4 n n0) (at3 c.before))
+    (rw e.0 (at_least n c.requires.0 c.requires.1).0, e.1, left_first (steps3 n n0) (rest4 n n0) (at3 c.before))
 
 pub stage4-requires : goal.stage4-requires
 stage4-requires c =
@@ -75,21 +76,21 @@ stage5-requires c =
     let n = c.args.n in
     let n0 = c.side-n0.result in
     let e = c.side-n0.ensures in
-    (c.requires.1, e.3, e.2, left_first (steps5 n n0) (rest6 n n0) (at5 c.before))
+    (c.requires.1, rw e.0 (at_least n c.requires.0 c.requires.1).1, e.1, left_first (steps5 n n0) (rest6 n n0) (at5 c.before))
 
 pub stage6-requires : goal.stage6-requires
 stage6-requires c =
     let n = c.args.n in
     let n0 = c.side-n0.result in
     let e = c.side-n0.ensures in
-    (e.1, e.2, left_first (steps6 n n0) (rest7 n n0) (at6 c.before))
+    (rw e.0 (at_least n c.requires.0 c.requires.1).0, e.1, left_first (steps6 n n0) (rest7 n n0) (at6 c.before))
 
 pub stage7-requires : goal.stage7-requires
 stage7-requires c =
     let n = c.args.n in
     let n0 = c.side-n0.result in
     let e = c.side-n0.ensures in
-    (e.1, e.2, (at7 c.before).ok)
+    (rw e.0 (at_least n c.requires.0 c.requires.1).0, e.1, (at7 c.before).ok)
 
 pub returns : goal.returns
 returns c = left_last (at7 c.before.before) c.stage7.ensures

@@ -2,7 +2,6 @@ use mathlib.Core.Path.{◌≡◌, refl, ap, ◌∙◌}
 use mathlib.Core.List.{List}
 use Prim.Native.Nat.{ℕ, ◌+◌, ◌-◌, ◌*◌, ◌/◌, ◌≤◌, ◌<◌}
 use native.Mathlib.Omega.{arith}
-use borrow.Author.Rules.{rules}
 use lib.IntN.{ℤ, pos, ◌+ℤ◌, ◌-ℤ◌}
 use lib.ListN.{length, length-set, get_or, set, replicate}
 use mir.Syntax.{w64}
@@ -38,7 +37,7 @@ fold-requires c =
     rw e.0 (omega (arith, side_most c.args.n c.requires.0 c.requires.1), λ k q. c.requires.3 k (omega arith), λ k q. c.requires.4 k (omega arith))
 
 pub loop-m-init : goal.loop-m-init
-loop-m-init c = (omega arith, times_none _ _, refl)
+loop-m-init c = (times_none _ _, refl)
 
 -- in a turn: both coefficients are of the line, and have their places
 pair_below : (d : In-loop-m) → 2 * d.loop-m.m + 1 < side d.args.n
@@ -48,7 +47,7 @@ pair_below d =
     omega (arith, t, halves d.args.n d.requires.0 d.requires.1)
 
 place : (d : In-loop-m) (k : ℕ) → k < side d.args.n → d.args.start + k * d.args.step < length d.loop-m.block
-place d k q = rw d.loop-m.invariant.2 (d.requires.3 k q)
+place d k q = rw d.loop-m.invariant.1 (d.requires.3 k q)
 
 row_low : (d : In-loop-m) (k : ℕ) → k < side d.args.n → k * d.stride-next.result + 16 ≤ 1024
 row_low d k q = rw d.stride-next.ensures.0 (row_room d.args.n k d.requires.1 q)
@@ -62,10 +61,6 @@ taken : (d : In-loop-m) → let a = d.args in
     d.fold.new.differences ≡ fill (side a.n / 2) (λ i. get_or a.block.now (a.start + i * a.step) (pos 0) -ℤ get_or a.block.now (a.start + (2 * (side a.n / 2) - 1 - i) * a.step) (pos 0)) (replicate 16 (pos 0))
 taken d = rw d.side-n0.ensures.0 at d.fold.ensures.taken
 
-pub overflow_mul-k-in-loop-m : goal.overflow_mul-k-in-loop-m
-overflow_mul-k-in-loop-m c =
-    omega (arith, row_low c.before.before (2 * c.loop-m.m) (omega (arith, pair_below c.before.before)))
-
 pub dot-requires : goal.dot-requires
 dot-requires c =
     let e = c.side-n0.ensures.0 in
@@ -78,30 +73,6 @@ dot-requires c =
           (λ i q. within_add (c.requires.4 i (omega (arith, halves c.args.n l h))) (c.requires.4 (2 * (side c.args.n / 2) - 1 - i) (omega (arith, halves c.args.n l h)))),
     )
 
-pub overflow_mul-block : goal.overflow_mul-block
-overflow_mul-block c =
-    let q = pair_below c.before.before.before in
-    omega (arith, place c.before.before.before (2 * c.loop-m.m) (omega arith))
-
-pub overflow_add-block : goal.overflow_add-block
-overflow_add-block c =
-    let q = pair_below c.before.before.before in
-    omega (arith, place c.before.before.before (2 * c.loop-m.m) (omega arith))
-
-pub offset_bounds-block-start : goal.offset_bounds-block-start
-offset_bounds-block-start c =
-    let q = pair_below c.before.before.before in
-    omega (arith, place c.before.before.before (2 * c.loop-m.m) (omega arith))
-
-pub bounds-block-start : goal.bounds-block-start
-bounds-block-start c =
-    let q = pair_below c.before.before.before in
-    omega (arith, place c.before.before.before (2 * c.loop-m.m) (omega arith))
-
-pub overflow_mul-k-in-loop-m-2 : goal.overflow_mul-k-in-loop-m-2
-overflow_mul-k-in-loop-m-2 c =
-    omega (arith, row_low c.before.before.before (2 * c.loop-m.m + 1) (pair_below c.before.before.before))
-
 pub dot-requires-in-loop-m : goal.dot-requires-in-loop-m
 dot-requires-in-loop-m c =
     let e = c.side-n0.ensures.0 in
@@ -113,22 +84,6 @@ dot-requires-in-loop-m c =
       half_within c.args.n l h _ (replicate 16 (pos 0)) _ refl (taken c.before.before.before)
           (λ i q. within_sub (c.requires.4 i (omega (arith, halves c.args.n l h))) (c.requires.4 (2 * (side c.args.n / 2) - 1 - i) (omega (arith, halves c.args.n l h)))),
     )
-
-pub overflow_mul-k-in-loop-m-3 : goal.overflow_mul-k-in-loop-m-3
-overflow_mul-k-in-loop-m-3 c =
-    omega (arith, place c.before.before.before.before (2 * c.loop-m.m + 1) (pair_below c.before.before.before.before))
-
-pub overflow_add-start : goal.overflow_add-start
-overflow_add-start c =
-    omega (arith, place c.before.before.before.before (2 * c.loop-m.m + 1) (pair_below c.before.before.before.before))
-
-pub offset_bounds-block-start-in-loop-m : goal.offset_bounds-block-start-in-loop-m
-offset_bounds-block-start-in-loop-m c =
-    omega (arith, place c.before.before.before.before (2 * c.loop-m.m + 1) (pair_below c.before.before.before.before))
-
-pub bounds-block-start-in-loop-m : goal.bounds-block-start-in-loop-m
-bounds-block-start-in-loop-m c =
-    rw length-set (place c.before.before.before.before (2 * c.loop-m.m + 1) (pair_below c.before.before.before.before))
 
 -- what a turn stores
 even : (c : After-dot) → let a = c.args in
@@ -163,9 +118,8 @@ loop-m-preserved c =
     let a = c.args in
     let f : ℕ → List ℤ → List ℤ = λ k s. set s (a.start + k * a.step) (get_or (line_of a.n (line a.start a.step (side a.n) a.block.now)) k (pos 0)) in
     let e : 2 * (l.m + 1) ≡ 2 * l.m + 1 + 1 = omega arith in (
-      search rules,
-      rw e (times_more f (2 * l.m + 1) a.block.now (times_more f (2 * l.m) a.block.now l.invariant.1 (ap (λ (z : ℤ). set l.block (a.start + 2 * l.m * a.step) z) (even c.before.before))) (ap (λ (z : ℤ). set (set l.block (a.start + 2 * l.m * a.step) (to_z w64 (of_z w64 c.dot.result))) (a.start + (2 * l.m + 1) * a.step) z) (odd c))),
-      simp length-set l.invariant.2,
+      rw e (times_more f (2 * l.m + 1) a.block.now (times_more f (2 * l.m) a.block.now l.invariant.0 (ap (λ (z : ℤ). set l.block (a.start + 2 * l.m * a.step) z) (even c.before.before))) (ap (λ (z : ℤ). set (set l.block (a.start + 2 * l.m * a.step) (to_z w64 (of_z w64 c.dot.result))) (a.start + (2 * l.m + 1) * a.step) z) (odd c))),
+      simp length-set l.invariant.1,
     )
 
 pub returns : goal.returns
@@ -174,4 +128,4 @@ returns c =
     let l = c.loop-m in
     let e = c.side-n0.ensures.0 in
     let q : 2 * l.m ≡ side c.args.n = omega (arith, halves c.args.n c.requires.0 c.requires.1, e) in
-    rw q at l.invariant.1
+    rw q at l.invariant.0

@@ -1,5 +1,5 @@
 use mathlib.Core.Path.{◌≡◌}
-use Prim.Native.Nat.{◌+◌, ◌-◌, ◌*◌, ◌≤◌}
+use Prim.Native.Nat.{◌+◌, ◌*◌}
 use lib.IntN.{pos}
 use lib.ListN.{length, get_or, set}
 use Rattle.whole.specs.Inner.{times}
@@ -10,9 +10,5 @@ use Rattle.fwd_dct.proofs.line.Given as goal
 
 abbrev pub invariant-loop-m : goal.invariant-loop-m
 invariant-loop-m l =
-    (l.m ≤ l.m-end)
-    × (l.block ≡ times (2 * l.m) (λ k s. set s (l.start + k * l.step) (get_or (line_of l.n (line l.start l.step (side l.n) l.initial.block)) k (pos 0))) l.initial.block)
+    (l.block ≡ times (2 * l.m) (λ k s. set s (l.start + k * l.step) (get_or (line_of l.n (line l.start l.step (side l.n) l.initial.block)) k (pos 0))) l.initial.block)
     × (length l.block ≡ length l.initial.block)
-
-abbrev pub decreases-loop-m : goal.decreases-loop-m
-decreases-loop-m l = l.m-end - l.m

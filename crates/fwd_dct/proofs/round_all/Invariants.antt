@@ -1,13 +1,9 @@
 use mathlib.Core.Path.{◌≡◌}
-use Prim.Native.Nat.{◌-◌, ◌≤◌}
 use lib.IntN.{pos}
-use lib.ListN.{length, get_or}
+use lib.ListN.{get_or}
 use Rattle.whole.specs.Lists.{fill}
 use Rattle.whole.specs.Round.{Round2}
 use Rattle.fwd_dct.proofs.round_all.Given as goal
 
-abbrev pub invariant-loop-k : goal.invariant-loop-k
-invariant-loop-k l = (l.k ≤ l.count) × (l.block ≡ fill l.k (λ k. Round2 (get_or l.initial.block k (pos 0)) l.shift) l.initial.block) × (length l.block ≡ length l.initial.block)
-
-abbrev pub decreases-loop-k : goal.decreases-loop-k
-decreases-loop-k l = l.count - l.k
+abbrev pub invariant-loop-x : goal.invariant-loop-x
+invariant-loop-x l = l.block ≡ fill l.x-index (λ k. Round2 (get_or l.initial.block k (pos 0)) l.shift) l.initial.block

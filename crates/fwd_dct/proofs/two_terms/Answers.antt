@@ -7,12 +7,6 @@ use lib.ListN.{get_or}
 use Rattle.whole.proofs.Signed.{loc, ◌⊕◌, ◌⊗◌, fits, value, within}
 use Rattle.fwd_dct.proofs.two_terms.Goals as goal
 
-pub overflow_mul-result : goal.overflow_mul-result
-overflow_mul-result c = fits w64 (loc c.requires.2 ⊗ loc c.entry-a.ensures.1) tt
-
-pub overflow_mul-result-2 : goal.overflow_mul-result-2
-overflow_mul-result-2 c = fits w64 (loc c.requires.3 ⊗ loc c.entry-b.ensures.1) tt
-
 pub overflow_add-result-2 : goal.overflow_add-result-2
 overflow_add-result-2 c =
     let p = c.requires in

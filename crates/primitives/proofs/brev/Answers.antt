@@ -1,15 +1,7 @@
-use mathlib.Core.Path.{◌≡◌, ap}
-use Prim.Native.Nat.{◌-◌}
 use native.Mathlib.Omega.{arith}
 use borrow.Author.Rules.{rules}
-use Rattle.primitives.specs.Brev.{Brev}
 use Rattle.primitives.proofs.Reversal.{brev_turn, brev_fits, brev_end}
 use Rattle.primitives.proofs.brev.Goals as goal
-
-pub loop-i-init : goal.loop-i-init
-loop-i-init c =
-    let e : c.args.num_bits - 0 ≡ c.args.num_bits = omega arith in
-    (omega arith, omega (arith, ap (λ k. Brev k c.args.x) e))
 
 pub overflow_add-t : goal.overflow_add-t
 overflow_add-t c =

@@ -23,11 +23,6 @@ module _ (x : ℤ) (n : ℕ) (h : n ≤ 30) (b : Within (2 ^ 62) x) where
   sum_fits : SFits w64 (x +ℤ pos (2 ^ (n - 1)))
   sum_fits = within_sfits {m = 2 ^ 62 + 2 ^ 29} (lit< tt) (within_add b (record { hi = half_le; lo = omega arith }))
 
-pub overflow_add-result : goal.overflow_add-result
-overflow_add-result c =
-    rw (to_z-of_z c.ranges.x, half c.args.x c.args.k c.requires.1 c.requires.2)
-    (sum_fits c.args.x c.args.k c.requires.1 c.requires.2)
-
 pub returns : goal.returns
 unfolding Round2
 returns c =

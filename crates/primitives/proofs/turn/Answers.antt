@@ -27,12 +27,6 @@ sum p q c = (loc p ⊕ loc q) ⊗ loc c
 abbrev diff : {p q c : ℤ} → Within (2 ^ 46) p → Within (2 ^ 46) q → Within 16384 c → C
 diff p q c = (loc p ⊖ loc q) ⊗ loc c
 
-pub overflow_mul-p : goal.overflow_mul-p
-overflow_mul-p c = fits w64 (loc c.requires.0 ⊗ loc c.cos64-c.ensures.1) tt
-
-pub overflow_mul-q : goal.overflow_mul-q
-overflow_mul-q c = fits w64 (loc c.requires.1 ⊗ loc c.sin64-s.ensures.1) tt
-
 pub overflow_sub-p : goal.overflow_sub-p
 overflow_sub-p c = fits w64 (four_x c.requires.0 c.requires.1 c.cos64-c.ensures.1 c.sin64-s.ensures.1) tt
 
@@ -72,18 +66,12 @@ returns-then-angle2-ne16 c =
           ∙ ap (λ (u : ℤ). Round2 u 14) (value w64 (four_y c.requires.0 c.requires.1 k.ensures.1 z.ensures.1) tt ∙ ap₂ (λ (u v : ℤ). c.args.p *ℤ v +ℤ c.args.q *ℤ u) e f);
     }
 
-pub overflow_add-p-then-angle2-eq1 : goal.overflow_add-p-then-angle2-eq1
-overflow_add-p-then-angle2-eq1 c = fits w64 (loc c.requires.0 ⊕ loc c.requires.1) tt
-
 pub overflow_mul-p-then-angle2-eq1 : goal.overflow_mul-p-then-angle2-eq1
 overflow_mul-p-then-angle2-eq1 c = fits w64 (sum c.requires.0 c.requires.1 c.cos64-c.ensures.1) tt
 
 pub round2-requires-then-angle2-eq1 : goal.round2-requires-then-angle2-eq1
 round2-requires-then-angle2-eq1 c =
     (lit≤ tt, lit≤ tt, within w64 (2 ^ 62) (sum c.requires.0 c.requires.1 c.cos64-c.ensures.1) tt tt)
-
-pub overflow_sub-q : goal.overflow_sub-q
-overflow_sub-q c = fits w64 (loc c.requires.1 ⊖ loc c.requires.0) tt
 
 pub overflow_mul-q-then-angle2-eq1 : goal.overflow_mul-q-then-angle2-eq1
 overflow_mul-q-then-angle2-eq1 c = fits w64 (diff c.requires.1 c.requires.0 c.cos64-c.ensures.1) tt
@@ -112,18 +100,12 @@ returns-then-angle2-eq1 c =
           ∙ ap (λ (u : ℤ). Round2 u 14) (value w64 (diff c.requires.1 c.requires.0 k.ensures.1) tt ∙ ap (λ (u : ℤ). (q -ℤ p) *ℤ u) e ∙ odd_y p q g d);
     }
 
-pub overflow_sub-p-2 : goal.overflow_sub-p-2
-overflow_sub-p-2 c = fits w64 (loc c.requires.0 ⊖ loc c.requires.1) tt
-
 pub overflow_mul-p-2 : goal.overflow_mul-p-2
 overflow_mul-p-2 c = fits w64 (diff c.requires.0 c.requires.1 c.cos64-c.ensures.1) tt
 
 pub round2-requires-2 : goal.round2-requires-2
 round2-requires-2 c =
     (lit≤ tt, lit≤ tt, within w64 (2 ^ 62) (diff c.requires.0 c.requires.1 c.cos64-c.ensures.1) tt tt)
-
-pub overflow_add-p-2 : goal.overflow_add-p-2
-overflow_add-p-2 c = fits w64 (loc c.requires.0 ⊕ loc c.requires.1) tt
 
 pub overflow_mul-p-3 : goal.overflow_mul-p-3
 overflow_mul-p-3 c = fits w64 (sum c.requires.0 c.requires.1 c.cos64-c.ensures.1) tt
