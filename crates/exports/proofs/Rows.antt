@@ -6,8 +6,7 @@ use Prim.Native.Nat.{ℕ, zero, suc, ◌≤◌, ◌<◌}
 use native.Mathlib.Omega.{arith}
 use borrow.Author.Tests.{eq-eqb, ne_eqb}
 use Rattle.whole.specs.Steps.{each, when}
-use Rattle.answers.specs.declared.Answer.{Answer}
-use Rattle.answers.specs.Answers.{number}
+use Rattle.answers.specs.Answers.{Answer, number}
 use Rattle.summary.specs.declared.RowSummary.TheVariants.{Rows, Refused}
 use Rattle.summary.specs.Summary.{those, is_set, set_rows, first_of, last_of, summarized}
 use Rattle.idct.specs.Driver as D

@@ -15,8 +15,7 @@ use Rattle.whole.specs.Within.{Within}
 use Rattle.whole.proofs.Lists.{length_tabulate, get_d_tabulate}
 use Rattle.whole.proofs.Parts.{sum_parts, neg_P, neg_N, eq_parts}
 use Rattle.whole.proofs.Within.{within_parts, within_zero, abs_bd}
-use Rattle.answers.specs.declared.Answer.{Answer}
-use Rattle.answers.specs.declared.Answer.TheVariants.{Done}
+use Rattle.answers.specs.Answers.{Answer}
 use Rattle.answers.specs.Limits.{COEF_LIMIT, WHT_LIMIT, SIDE_LIMIT, codeable}
 use Rattle.answers.specs.Bad.{bad_depth, bad_lossless, bad_tx_type, bad_quantizer, any_beyond}
 use Rattle.answers.proofs.Numbers.{number_injective}

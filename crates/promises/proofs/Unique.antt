@@ -5,8 +5,7 @@ use Prim.Native.Nat.{ℕ}
 use lib.IntN.{ℤ, pos}
 use lib.ListN.{length}
 use denote.Ref.{Bor}
-use Rattle.answers.specs.declared.Answer.{Answer}
-use Rattle.answers.specs.Answers.{number}
+use Rattle.answers.specs.Answers.{Answer, number}
 use Rattle.answers.specs.Limits.{codeable}
 use Rattle.answers.proofs.Numbers.{number_injective}
 use Rattle.summary.specs.declared.Row.{Row}

@@ -9,8 +9,7 @@ use lib.Dec.{eqb}
 use lib.ListN.{length, drop}
 use Rattle.whole.specs.Lists.{fill}
 use Rattle.whole.proofs.Lists.{fill_all}
-use Rattle.answers.specs.Answers.{number}
-use Rattle.answers.specs.declared.Answer.{Answer}
+use Rattle.answers.specs.Answers.{Answer, number}
 use Rattle.vbk_read.specs.Header.{sample_at, samples_of, plane_area, first_record, header_answer, fields_of, no_fields}
 use Rattle.vbk_read.specs.declared.Fields.{Fields}
 use Rattle.vbk.specs.Replay.{records, records_of}

@@ -7,10 +7,8 @@ use native.Mathlib.Omega.{arith}
 use borrow.Author.Tests.{lt-ltb, le-ltb, ne_eqb}
 use lib.Dec.{ltb}
 use lib.ListN.{length}
-use Rattle.answers.specs.Answers.{number}
+use Rattle.answers.specs.Answers.{Answer, number}
 use Rattle.answers.specs.Sizes.{area}
-use Rattle.answers.specs.declared.Answer.{Answer}
-use Rattle.answers.specs.declared.Answer.TheVariants.{Done}
 use Rattle.vbk_read.specs.Bytes.{le1, le2}
 use Rattle.vbk_read.specs.Records.{size_at, lossless_at, head_at, no_head, next_at, end_answer, lossless_answer, check_answer, Recorded}
 use Rattle.vbk_read.specs.Inner.{Took, ending}

@@ -1,6 +1,6 @@
 -- What only the contracts inside this crate read.
 use Rattle.std.specs.Prelude.{◌≡◌, Bool, true, ℕ}
-use Rattle.answers.specs.declared.Answer.{Answer}
+use Rattle.answers.specs.Answers.{Answer}
 use Rattle.vbk_read.specs.Records.{no_head}
 use Rattle.vbk_read.specs.declared.Record.{Record}
 

@@ -7,8 +7,7 @@ use native.Mathlib.Omega.{arith}
 use borrow.Author.Tests.{ne_eqb}
 use lib.Dec.{eqb}
 use lib.ListN.{length, drop}
-use Rattle.answers.specs.Answers.{number}
-use Rattle.answers.specs.declared.Answer.{Answer}
+use Rattle.answers.specs.Answers.{Answer, number}
 use Rattle.vbk_read.specs.Header.{samples_of, plane_area, first_record, fields_of, no_fields}
 use Rattle.vbk_read.specs.declared.Fields.{Fields}
 use Rattle.vbk.specs.Replay.{records}

@@ -6,8 +6,7 @@ use Prim.Native.Nat.{ℕ}
 use native.Mathlib.Decide.{ℕ_discrete}
 use native.Mathlib.Omega.{arith}
 use lib.ListN.{length}
-use Rattle.answers.specs.declared.Answer.{Answer}
-use Rattle.answers.specs.Answers.{number}
+use Rattle.answers.specs.Answers.{Answer, number}
 use Rattle.residual16.specs.Inner.{Lent}
 use Rattle.tokens.specs.Inner.{shape_of}
 use Rattle.tokens.proofs.Sizes.{dc_fine, ac_fine}
