@@ -17,7 +17,7 @@ ghost use Rattle.tested.specs.Line.{pass_of};
 ghost use Rattle.idct32.specs.Engine.{kept_rows, kept_columns, within16, Driven32};
 ghost use Rattle.idct32.specs.Inner.{Flat, rounded};
 
-use answers::Answer;
+use answers::{Answer, Refusal};
 use tested::{Kind, TooWide};
 
 // The greatest sum of magnitudes with which no number on the way leaves 16 bits: a law of crate weights.
@@ -42,12 +42,7 @@ fn any_beyond(block: &[i64], count: usize) -> bool
     requires { count ≤ length block.now }
     ensures { result ≡ any_beyond COEF_LIMIT count block.now }
 {
-    for k in 0..count {
-        if is_beyond(block[k]) {
-            return true;
-        }
-    }
-    false
+    block[..count].iter().any(|&x| is_beyond(x))
 }
 
 // A number that is of 16 bits, in 16 bits.
@@ -238,26 +233,21 @@ fn give_flat(block: &mut [i64], x: i16, n: u32, count: usize)
 pub fn inverse_transform_2d_32(block: &mut [i64], n: u32, tx_type: u8, lossless: bool) -> Answer
     ensures { Driven32 (record { block = block.entry.now; n = n; tx_type = tx_type; lossless = lossless }) result block.exit.now }
 {
-    let answer = idct::shape(block.len(), n, tx_type, lossless);
-    if answers::code(answer) != 0 {
-        return answer;
-    }
+    idct::shape(block.len(), n, tx_type, lossless)?;
     let count = answers::area(n);
     let mut work = narrow_lines::zeros();
     if take(&mut work, block, count).is_err() {
         if any_beyond(block, count) {
-            return Answer::Coefficient;
+            return Err(Refusal::Coefficient);
         }
-        return Answer::Narrow;
+        return Err(Refusal::Narrow);
     }
     let sum = narrow_lines::total(&work, count);
     if is_flat(&work, sum, tx_type, lossless) {
         give_flat(block, work[0], n, count);
-        return Answer::Done;
+        return Ok(());
     }
-    if passes(&mut work, n, tx_type, lossless, sum).is_err() {
-        return Answer::Narrow;
-    }
+    passes(&mut work, n, tx_type, lossless, sum)?;
     give(block, &work, n, lossless);
-    Answer::Done
+    Ok(())
 }

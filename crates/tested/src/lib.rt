@@ -6,6 +6,7 @@
 ghost use Rattle.std.specs.Prelude.{◌≡◌, is_ok, true, false, ℕ, ◌+◌, ◌*◌, ◌≤◌, ◌<◌, ◌^◌, T, pos, length, get_or};
 ghost use Rattle.whole.specs.Lists.{fill};
 ghost use Rattle.whole.specs.Inner.{AllWithin};
+ghost use Rattle.answers.specs.declared.Refusal.TheVariants.{Narrow};
 ghost use Rattle.answers.specs.Sizes.{side};
 ghost use Rattle.primitives.specs.Brev.{Brev};
 ghost use Rattle.primitives.specs.Rotations.{set_pair};
@@ -21,6 +22,8 @@ ghost use Rattle.blocks.specs.Inverse.{Dct, apply};
 ghost use Rattle.weights.specs.Inner.{Keeps};
 ghost use Rattle.tested.specs.Line.{pass_of, steps_of, Sized, Line, RowsKeep, ColumnsKeep, Tells};
 ghost use Rattle.tested.specs.Inner.{step_of, known, OfAngle, ready, Told, Gives, Tables};
+
+use answers::Refusal;
 
 // The transform of a line; the WHT has a shift of 2 in rows and none in columns.
 #[derive(Clone, Copy)]
@@ -269,6 +272,14 @@ fn cos_sin(angle: i8) -> (i32, i32)
 // A number that T is given is not of 16 bits.
 #[derive(Clone, Copy, Debug, PartialEq, Eq)]
 pub struct TooWide;
+
+impl From<TooWide> for Refusal {
+    ghost from_gives = { λ _ refusal. refusal ≡ Narrow };
+
+    fn from(_: TooWide) -> Refusal {
+        Refusal::Narrow
+    }
+}
 
 // x to place a and y to place b, or exchanged, where both are of 16 bits.
 fn put(t: &mut [i16; 32], a: usize, b: usize, x: i32, y: i32, flip: bool) -> Result<(), TooWide>

@@ -1,5 +1,5 @@
 -- `idct32::inverse_transform_2d_32` meets its contract.
-use mathlib.Core.Path.{◌≡◌, sym, ◌∙◌}
+use mathlib.Core.Path.{◌≡◌, sym, ap, ◌∙◌}
 use mathlib.Core.Bool.{Bool, true, false}
 use mathlib.Core.List.{List}
 use Prim.Native.Nat.{ℕ, ◌≤◌}
@@ -7,8 +7,11 @@ use native.Mathlib.Omega.{arith}
 use lib.IntN.{ℤ, pos}
 use lib.ListN.{length, get_or, replicate}
 use mir.Syntax.{w16}
+use Rattle.std.specs.Prelude.{Err, is_ok}
+use Rattle.std.proofs.lemmas.Result.{err_from_is_err_and}
 use Rattle.whole.specs.Lists.{fill}
 use Rattle.whole.proofs.Signed.{rd_ok}
+use Rattle.answers.proofs.Numbers.{refused_number}
 use Rattle.answers.specs.declared.Refusal.TheVariants.{Coefficient}
 use Rattle.answers.specs.Answers.{number}
 use Rattle.answers.specs.Bad.{any_beyond}
@@ -36,38 +39,39 @@ given block n tx_type lossless = record { block = block; n = n; tx_type = tx_typ
 fine : (u : Input) → shape_of (length u.block) u.n u.tx_type u.lossless ≡ 0 → Possible u.n u.tx_type u.lossless × (area u.n ≤ length u.block)
 fine u e = D.possible (length u.block) u.n u.tx_type u.lossless e
 
-pub returns-then-code-ne0 : goal.returns-then-code-ne0
-returns-then-code-ne0 c =
+pub returns-in_err-shape : goal.returns-in_err-shape
+returns-in_err-shape c =
     let u = given c.args.block.now c.args.n c.args.tx_type c.args.lossless in
-    let ne : number c.shape-answer.result ≡ 0 → ⊥ = λ z. c.if-code-ne0.true (c.code.ensures ∙ z) in
-    refused u (D.refused u _ c.shape-answer.ensures ne) ne
+    let p = err_from_is_err_and c.from_residual.result c.from_residual.ensures.1 in
+    let ne = refused_number c.in_err-shape.field-0.0 in
+    rw (p.1, p.2) (refused u (D.refused u (Err c.in_err-shape.field-0.0) c.in_err-shape.ensures ne) ne)
 
 pub area-count-requires : goal.area-count-requires
 area-count-requires c =
-    let f = fine (given c.args.block.now c.args.n c.args.tx_type c.args.lossless) (sym (c.code.ensures ∙ c.shape-answer.ensures) ∙ c.if-code-ne0.false) in
+    let f = fine (given c.args.block.now c.args.n c.args.tx_type c.args.lossless) (sym c.in_ok-shape.ensures) in
     (f.0.least, f.0.most)
 
 pub take-requires : goal.take-requires
 take-requires c =
-    let f = fine (given c.args.block.now c.args.n c.args.tx_type c.args.lossless) (sym (c.code.ensures ∙ c.shape-answer.ensures) ∙ c.if-code-ne0.false) in
+    let f = fine (given c.args.block.now c.args.n c.args.tx_type c.args.lossless) (sym c.in_ok-shape.ensures) in
     (c.area-count.ensures.1, rw c.area-count.ensures.0 f.1)
 
 pub any_beyond-requires : goal.any_beyond-requires
 any_beyond-requires c =
-    let f = fine (given c.args.block.now c.args.n c.args.tx_type c.args.lossless) (sym (c.code.ensures ∙ c.shape-answer.ensures) ∙ c.if-code-ne0.false) in
+    let f = fine (given c.args.block.now c.args.n c.args.tx_type c.args.lossless) (sym c.in_ok-shape.ensures) in
     rw c.area-count.ensures.0 f.1
 
 pub returns-then-any_beyond : goal.returns-then-any_beyond
 returns-then-any_beyond c =
     let u = given c.args.block.now c.args.n c.args.tx_type c.args.lossless in
-    let e = sym (c.code.ensures ∙ c.shape-answer.ensures) ∙ c.if-code-ne0.false in
+    let e = sym c.in_ok-shape.ensures in
     let over : any_beyond COEF_LIMIT (area u.n) u.block ≡ true = sym (rw c.area-count.ensures.0 at c.any_beyond.ensures) ∙ c.if-any_beyond.true in
-    refused u (D.driven u Coefficient u.block e (D.over u over)) (λ z. absurd (omega arith))
+    refused u (D.driven u (Err Coefficient) u.block e (D.over u over)) (λ z. absurd (omega arith))
 
 pub returns-then-is_err : goal.returns-then-is_err
 returns-then-is_err c =
     let u = given c.args.block.now c.args.n c.args.tx_type c.args.lossless in
-    let e = sym (c.code.ensures ∙ c.shape-answer.ensures) ∙ c.if-code-ne0.false in
+    let e = sym c.in_ok-shape.ensures in
     let p = (fine u e).0 in
     let none : any_beyond COEF_LIMIT (area u.n) u.block ≡ false = sym (rw c.area-count.ensures.0 at c.any_beyond.ensures) ∙ c.if-any_beyond.false in
     let left : shorts (area u.n) u.block ≡ false = sym (rw c.area-count.ensures.0 at c.take.ensures.is) ∙ gone c.take.result (sym c.is_err.ensures.value ∙ c.if-is_err.true) in
@@ -81,14 +85,14 @@ module _ (u : Input) (e : shape_of (length u.block) u.n u.tx_type u.lossless ≡
 pub give_flat-requires : goal.give_flat-requires
 give_flat-requires c =
     let u = given c.args.block.now c.args.n c.args.tx_type c.args.lossless in
-    let e = sym (c.code.ensures ∙ c.shape-answer.ensures) ∙ c.if-code-ne0.false in
+    let e = sym c.in_ok-shape.ensures in
     let p = fine u e in
     (p.0.least, p.0.most, rw c.area-count.ensures.0 p.1)
 
 pub returns-then-is_flat : goal.returns-then-is_flat
 returns-then-is_flat c =
     let u = given c.args.block.now c.args.n c.args.tx_type c.args.lossless in
-    let e = sym (c.code.ensures ∙ c.shape-answer.ensures) ∙ c.if-code-ne0.false in
+    let e = sym c.in_ok-shape.ensures in
     let w = c.take.new.work in
     let k = in_work u e c.area-count.ensures.0 c.zeros-work.ensures c.take.ensures.is c.take.ensures.then (good c.take.result (sym c.is_err.ensures.value ∙ c.if-is_err.false)) in
     let sum : c.total-sum.result ≡ total (area u.n) w = rw c.area-count.ensures.0 at c.total-sum.ensures in
@@ -101,28 +105,29 @@ returns-then-is_flat c =
 pub passes-requires : goal.passes-requires
 passes-requires c =
     let u = given c.args.block.now c.args.n c.args.tx_type c.args.lossless in
-    let e = sym (c.code.ensures ∙ c.shape-answer.ensures) ∙ c.if-code-ne0.false in
+    let e = sym c.in_ok-shape.ensures in
     let k = in_work u e c.area-count.ensures.0 c.zeros-work.ensures c.take.ensures.is c.take.ensures.then (good c.take.result (sym c.is_err.ensures.value ∙ c.if-is_err.false)) in
     (k.possible, k.long, rw c.area-count.ensures.0 at c.total-sum.ensures)
 
-pub returns-then-is_err-2 : goal.returns-then-is_err-2
-returns-then-is_err-2 c =
+pub returns-in_err-passes : goal.returns-in_err-passes
+returns-in_err-passes c =
     let u = given c.args.block.now c.args.n c.args.tx_type c.args.lossless in
-    let e = sym (c.code.ensures ∙ c.shape-answer.ensures) ∙ c.if-code-ne0.false in
+    let e = sym c.in_ok-shape.ensures in
     let k = in_work u e c.area-count.ensures.0 c.zeros-work.ensures c.take.ensures.is c.take.ensures.then (good c.take.result (sym c.is_err.ensures.value ∙ c.if-is_err.false)) in
-    leaves k (sym (gone c.passes.result (sym c.is_err-2.ensures.value ∙ c.if-is_err-2.true)) ∙ c.passes.ensures.is)
+    let p = err_from_is_err_and c.from_residual-in_err-passes.result c.from_residual-in_err-passes.ensures.1 in
+    rw (p.1, p.2) (leaves k (sym (ap is_ok c.in_err-passes.was) ∙ c.passes.ensures.is))
 
 pub give-requires : goal.give-requires
 give-requires c =
     let u = given c.args.block.now c.args.n c.args.tx_type c.args.lossless in
-    let e = sym (c.code.ensures ∙ c.shape-answer.ensures) ∙ c.if-code-ne0.false in
+    let e = sym c.in_ok-shape.ensures in
     let k = in_work u e c.area-count.ensures.0 c.zeros-work.ensures c.take.ensures.is c.take.ensures.then (good c.take.result (sym c.is_err.ensures.value ∙ c.if-is_err.false)) in
     (k.possible.least, k.possible.most, k.possible.small, k.room)
 
 pub returns : goal.returns
 returns c =
     let u = given c.args.block.now c.args.n c.args.tx_type c.args.lossless in
-    let e = sym (c.code.ensures ∙ c.shape-answer.ensures) ∙ c.if-code-ne0.false in
+    let e = sym c.in_ok-shape.ensures in
     let k = in_work u e c.area-count.ensures.0 c.zeros-work.ensures c.take.ensures.is c.take.ensures.then (good c.take.result (sym c.is_err.ensures.value ∙ c.if-is_err.false)) in
-    let a = good c.passes.result (sym c.is_err-2.ensures.value ∙ c.if-is_err-2.false) in
+    let a = ap is_ok c.in_ok-passes.was in
     stays k (sym a ∙ c.passes.ensures.is) (c.passes.ensures.then a) c.give.ensures
