@@ -20,9 +20,9 @@ ghost use Rattle.exports.specs.Rows.{asked_answer, asked_after, replaced_after, 
 ghost use Rattle.rows_told.specs.Rows.{row_number};
 ghost use Rattle.exports.specs.Run.{FIGURES, RunTold};
 
+use answers::Refusal;
 use plane::Plane;
 use quant::{AcQuant, DcQuant};
-use summary::RowSummary;
 
 // Numbers that a run tells of itself: depth, width, height, records read, touched count.
 pub const FIGURES: usize = 5;
@@ -66,15 +66,13 @@ pub extern "C" fn bracetwill_inverse_transform_2d_rows(
 ) -> u32
     ensures { Told counting_answer counting_after (record { input = record { block = block.entry.now; n = n; tx_type = tx_type; lossless = lossless }; room = rows.old }) result (record { block = block.exit.now; rows = rows.new }) }
 {
-    let driven = idct::inverse_transform_2d_rows(block, n, tx_type, lossless);
-    let answer = driven.answer;
-    let number = answers::code(answer);
-    if number != 0 {
-        return number;
+    match idct::inverse_transform_2d_rows(block, n, tx_type, lossless) {
+        Ok(count) => {
+            *rows = count.number();
+            0
+        }
+        Err(refusal) => u32::from(refusal),
     }
-    let count = driven.rows;
-    *rows = count.number();
-    number
 }
 
 // The summary of a block's rows, into the room for it, which stays under a refusal.
@@ -83,11 +81,11 @@ pub extern "C" fn bracetwill_row_summary(block: &[i64], n: u32, summary: &mut u3
     ensures { Told asked_answer asked_after (record { block = block.entry.now; n = n; room = summary.old }) result summary.new }
 {
     match summary::row_summary(block, n) {
-        RowSummary::Rows(rows) => {
+        Ok(rows) => {
             *summary = rows;
             0
         }
-        RowSummary::Refused(answer) => answers::code(answer),
+        Err(refusal) => u32::from(refusal),
     }
 }
 
@@ -340,7 +338,7 @@ pub extern "C" fn bracetwill_replay(
     ensures { RunTold file.now samples.old answers.old figures.old result samples.new answers.new figures.new }
 {
     if figures.len() < FIGURES {
-        return answers::code(answers::Answer::Length);
+        return u32::from(Refusal::Length);
     }
     let run = vbk::replay(file, samples, answers);
     let answer = run.answer;
