@@ -7,6 +7,7 @@ use borrow.Author.Tests.{eq-eqb, ne_eqb}
 use lib.Dec.{eqb}
 use lib.IntN.{ℤ, pos}
 use lib.ListN.{length, get_or, replicate}
+use Rattle.std.specs.Prelude.{Ok, Err}
 use Rattle.whole.specs.Lists.{fill}
 use Rattle.answers.specs.declared.Refusal.TheVariants.{Narrow}
 use Rattle.answers.specs.Answers.{Answer, number}
@@ -37,10 +38,10 @@ refused u d h =
 
 -- where the driver has none
 pub clear : (u : Input) → shape_of (length u.block) u.n u.tx_type u.lossless ≡ 0 → any_beyond COEF_LIMIT (area u.n) u.block ≡ false → D.answer_of u ≡ 0
-clear u e h = sym (driven u Done _ e (under u _ h refl)).answered
+clear u e h = sym (driven u (Ok tt) _ e (under u _ h refl)).answered
 
 -- 18, and the block as it was
-pub narrow : (u : Input) → D.answer_of u ≡ 0 → within16 u.n u.tx_type u.lossless u.block ≡ false → Driven32 u Narrow u.block
+pub narrow : (u : Input) → D.answer_of u ≡ 0 → within16 u.n u.tx_type u.lossless u.block ≡ false → Driven32 u (Err Narrow) u.block
 unfolding answer_of32 width_answer block_after32
 narrow u z e =
     let f : eqb (D.answer_of u) 0 ≡ true = eq-eqb (D.answer_of u) 0 z in
@@ -49,7 +50,7 @@ narrow u z e =
 
 -- 0, and the residual
 pub done : (u : Input) {after : List ℤ} → D.answer_of u ≡ 0 → within16 u.n u.tx_type u.lossless u.block ≡ true
-    → after ≡ inverse2d u.n u.tx_type u.lossless u.block → Driven32 u Done after
+    → after ≡ inverse2d u.n u.tx_type u.lossless u.block → Driven32 u (Ok tt) after
 unfolding answer_of32 width_answer block_after32
 done u z e q =
     let f : eqb (D.answer_of u) 0 ≡ true = eq-eqb (D.answer_of u) 0 z in
@@ -79,11 +80,11 @@ module _ {u : Input} {w : List ℤ} (k : Entered u w) where
   same = within_are u.n u.tx_type u.lossless u.block w k.room more k.agree
 
   -- a number leaves 16 bits
-  pub leaves : false ≡ within16 u.n u.tx_type u.lossless w → Driven32 u Narrow u.block
+  pub leaves : false ≡ within16 u.n u.tx_type u.lossless w → Driven32 u (Err Narrow) u.block
   leaves e = narrow u k.zero (sym same ∙ sym e)
 
   -- none does
   pub stays : true ≡ within16 u.n u.tx_type u.lossless w → {x after : List ℤ}
       → x ≡ columns (apply (column_pass u.tx_type u.lossless) u.n) (λ z. z) (side u.n) (rows (apply (row_pass u.tx_type u.lossless) u.n) (side u.n) w)
-      → after ≡ fill (area u.n) (λ p. rounding u.n u.lossless (get_or x p (pos 0))) u.block → Driven32 u Done after
+      → after ≡ fill (area u.n) (λ p. rounding u.n u.lossless (get_or x p (pos 0))) u.block → Driven32 u (Ok tt) after
   stays e g h = done u k.zero (sym same ∙ sym e) (h ∙ residual u.n u.tx_type u.lossless u.block w k.room more k.agree g)

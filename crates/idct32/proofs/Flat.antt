@@ -7,6 +7,7 @@ use native.Mathlib.Numerals.{add-one}
 use native.Mathlib.Omega.{arith}
 use borrow.Author.Tests.{le-ltb}
 use lib.Dec.{lit≤, ltb}
+use Rattle.std.specs.Prelude.{Ok}
 use lib.IntN.{ℤ, pos, nat_abs, ◌*ℤ◌}
 use lib.ListN.{length, get_or}
 use Rattle.whole.specs.Lists.{fill}
@@ -74,7 +75,7 @@ module _ (u : Input) {after : List ℤ} (e : shape_of (length u.block) u.n u.tx_
   others : live 1 (area u.n - 1) u.block ≡ false
   others = rest_dead (area u.n) u.block (area_some u.n) (sym first)
 
-  pub flat_done : Driven32 u Done after
+  pub flat_done : Driven32 u (Ok tt) after
   flat_done =
       let small = total_one (area u.n) 0 u.block (omega (arith, area_some u.n)) in
       let c = clear u e (dc_beyond u.n u.block p.0.least p.0.most p.1 others ∙ le-ltb COEF_LIMIT (nat_abs (get_or u.block 0 (pos 0))) (omega arith)) in

@@ -4,6 +4,7 @@ use mathlib.Core.Bool.{Bool, true, false}
 use mathlib.Core.List.{List}
 use Prim.Native.Nat.{ℕ}
 use lib.IntN.{ℤ}
+use Rattle.std.specs.Prelude.{Result, Ok, Err, is_ok, is_err, IsErr}
 use Rattle.answers.specs.Sizes.{side}
 use Rattle.blocks.specs.Inverse.{Pass}
 use Rattle.blocks.proofs.Passes.{Valid}
@@ -29,6 +30,15 @@ sized_of Dct n shift v = v
 sized_of Adst n shift v = v
 sized_of WhtRow n shift v = v.0
 sized_of WhtColumn n shift v = v.0
+
+-- what `?` gives back is no success
+pub gone : {X E : Type 0} (r : Result X E) → IsErr r → is_ok r ≡ false
+gone (Ok x) h = cc
+gone (Err e) h = refl
+
+pub good : {X E : Type 0} (r : Result X E) → is_err r ≡ false → is_ok r ≡ true
+good (Ok x) h = refl
+good (Err e) h = cc
 
 -- a block from 8 by 8 on is not lossless
 pub not_lossless : {n : ℕ} (b : Bool) → (b ≡ true → n ≡ 2) → (n ≡ 2 → ⊥) → b ≡ false

@@ -1,5 +1,6 @@
--- What only the contracts of inner functions read: a block of which place 0 alone is live.
-use Rattle.std.specs.Prelude.{◌≡◌, Bool, false, List, ℕ, ◌≤◌, ℤ}
+-- What only the contracts of inner functions read: a block of which place 0 alone is live, and a number rounded or left.
+use Rattle.std.specs.Prelude.{◌≡◌, Bool, false, cond, List, ℕ, ◌≤◌, eqb, ℤ}
+use Rattle.whole.specs.Round.{Round2}
 use Rattle.weights.specs.Inner.{total}
 
 -- it is of type 0, and place 0 has all of its few magnitudes, which come to m
@@ -8,3 +9,7 @@ pub record Flat (s : List ℤ) (m tx_type : ℕ) (lossless : Bool) : Type 0 wher
   pub zero_kind : tx_type ≡ 0
   pub few : m ≤ 31883
   pub first : total 1 s ≡ m
+
+-- Round2 by k bits; no bits leave the number as it is
+unfoldable pub rounded : ℤ → ℕ → ℤ
+rounded x k = cond (eqb k 0) x (Round2 x k)

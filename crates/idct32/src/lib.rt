@@ -1,7 +1,7 @@
 // The 32-bit engine. The work stands in numbers of 16 bits, products in 32; the 64-bit block is read at the start and written at the end.
 #![tactic(auto)]
 
-ghost use Rattle.std.specs.Prelude.{◌≡◌, true, false, ◌≤◌, ltb, pos, nat_abs, length, get_or};
+ghost use Rattle.std.specs.Prelude.{◌≡◌, is_ok, true, false, ◌≤◌, ltb, pos, nat_abs, length, get_or};
 ghost use Rattle.whole.specs.Lists.{fill};
 ghost use Rattle.whole.specs.Round.{Round2};
 ghost use Rattle.whole.specs.Within.{Within};
@@ -15,34 +15,26 @@ ghost use Rattle.blocks.specs.Inverse.{apply, row_pass, column_pass, rounding};
 ghost use Rattle.weights.specs.Inner.{total};
 ghost use Rattle.tested.specs.Line.{pass_of};
 ghost use Rattle.idct32.specs.Engine.{kept_rows, kept_columns, within16, Driven32};
-ghost use Rattle.idct32.specs.Inner.{Flat};
+ghost use Rattle.idct32.specs.Inner.{Flat, rounded};
 
-use answers::Answer;
+use answers::{Answer, Refusal};
+use tested::{Kind, TooWide};
+
+// The greatest sum of magnitudes with which no number on the way leaves 16 bits: a law of crate weights.
+const FEW: u32 = 31883;
 
 // x is of 16 bits.
 fn is_short(x: i64) -> bool
     ensures { result ≡ short x }
 {
-    if x > 32767 {
-        return false;
-    }
-    if x < -32768 {
-        return false;
-    }
-    true
+    -32768 <= x && x <= 32767
 }
 
 // x is beyond the limit of a coefficient.
 fn is_beyond(x: i64) -> bool
     ensures { result ≡ ltb COEF_LIMIT (nat_abs x) }
 {
-    if x > 2147483648 {
-        return true;
-    }
-    if x < -2147483648 {
-        return true;
-    }
-    false
+    x < -2147483648 || 2147483648 < x
 }
 
 // Whether one of the first `count` numbers is. By comparisons alone: `answers::any_beyond` takes magnitudes, in 64 bits.
@@ -50,12 +42,7 @@ fn any_beyond(block: &[i64], count: usize) -> bool
     requires { count ≤ length block.now }
     ensures { result ≡ any_beyond COEF_LIMIT count block.now }
 {
-    for k in 0..count {
-        if is_beyond(block[k]) {
-            return true;
-        }
-    }
-    false
+    block[..count].iter().any(|&x| is_beyond(x))
 }
 
 // A number that is of 16 bits, in 16 bits.
@@ -73,9 +60,7 @@ fn all_short(block: &[i64], count: usize) -> bool
 {
     let mut all = true;
     for k in 0..count {
-        if !is_short(block[k]) {
-            all = false;
-        }
+        all = all & is_short(block[k]);
     }
     all
 }
@@ -90,59 +75,59 @@ fn copy(work: &mut [i16; 1024], block: &[i64], count: usize)
     }
 }
 
-// The first `count` numbers of the block to the front of the work; false where one is not of 16 bits. They are compared and narrowed, and nothing else.
-fn take(work: &mut [i16; 1024], block: &[i64], count: usize) -> bool
+// The first `count` numbers of the block to the front of the work, where all are of 16 bits. They are compared and narrowed, and nothing else.
+fn take(work: &mut [i16; 1024], block: &[i64], count: usize) -> Result<(), TooWide>
     requires { (count ≤ 1024) × (count ≤ length block.now) }
-    ensures is { result ≡ shorts count block.now }
-    ensures then { result ≡ true → work.new ≡ fill count (λ k. get_or block.now k (pos 0)) work.old }
+    ensures is { is_ok result ≡ shorts count block.now }
+    ensures then { is_ok result ≡ true → work.new ≡ fill count (λ k. get_or block.now k (pos 0)) work.old }
 {
     if !all_short(block, count) {
-        return false;
+        return Err(TooWide);
     }
     copy(work, block, count);
-    true
+    Ok(())
 }
 
 // The transform of the rows.
-fn row_kind(tx_type: u8, lossless: bool) -> tested::Kind
+fn row_kind(tx_type: u8, lossless: bool) -> Kind
     ensures { pass_of result ≡ row_pass tx_type lossless }
 {
     if lossless {
-        return tested::Kind::WhtRow;
+        Kind::WhtRow
+    } else if blocks::row_dct(tx_type) {
+        Kind::Dct
+    } else {
+        Kind::Adst
     }
-    if blocks::row_dct(tx_type) {
-        return tested::Kind::Dct;
-    }
-    tested::Kind::Adst
 }
 
 // The transform of the columns.
-fn column_kind(tx_type: u8, lossless: bool) -> tested::Kind
+fn column_kind(tx_type: u8, lossless: bool) -> Kind
     ensures { pass_of result ≡ column_pass tx_type lossless }
 {
     if lossless {
-        return tested::Kind::WhtColumn;
+        Kind::WhtColumn
+    } else if blocks::column_dct(tx_type) {
+        Kind::Dct
+    } else {
+        Kind::Adst
     }
-    if blocks::column_dct(tx_type) {
-        return tested::Kind::Dct;
-    }
-    tested::Kind::Adst
 }
 
-// All rows; false where a number leaves 16 bits.
-fn rows(work: &mut [i16; 1024], n: u32, tx_type: u8, lossless: bool) -> bool
+// All rows, where no number leaves 16 bits.
+fn rows(work: &mut [i16; 1024], n: u32, tx_type: u8, lossless: bool) -> Result<(), TooWide>
     requires { Possible n tx_type lossless × (length work.old ≡ 1024) }
-    ensures is { result ≡ kept_rows (row_pass tx_type lossless) n work.old }
-    ensures then { result ≡ true → work.new ≡ rows (apply (row_pass tx_type lossless) n) (side n) work.old }
+    ensures is { is_ok result ≡ kept_rows (row_pass tx_type lossless) n work.old }
+    ensures then { is_ok result ≡ true → work.new ≡ rows (apply (row_pass tx_type lossless) n) (side n) work.old }
 {
     tested::rows(work, n, row_kind(tx_type, lossless))
 }
 
-// All columns, not rounded; false where a number leaves 16 bits.
-fn columns(work: &mut [i16; 1024], n: u32, tx_type: u8, lossless: bool) -> bool
+// All columns, not rounded, where no number leaves 16 bits.
+fn columns(work: &mut [i16; 1024], n: u32, tx_type: u8, lossless: bool) -> Result<(), TooWide>
     requires { Possible n tx_type lossless × (length work.old ≡ 1024) }
-    ensures is { result ≡ kept_columns (column_pass tx_type lossless) n work.old }
-    ensures then { result ≡ true → work.new ≡ columns (apply (column_pass tx_type lossless) n) (λ z. z) (side n) work.old }
+    ensures is { is_ok result ≡ kept_columns (column_pass tx_type lossless) n work.old }
+    ensures then { is_ok result ≡ true → work.new ≡ columns (apply (column_pass tx_type lossless) n) (λ z. z) (side n) work.old }
 {
     tested::columns(work, n, column_kind(tx_type, lossless))
 }
@@ -160,59 +145,55 @@ fn both(work: &mut [i16; 1024], n: u32, tx_type: u8)
     narrow_lines::from_strips(work, &z, n);
 }
 
-// Rows, then columns, not rounded; false where a number leaves 16 bits. Almost every block of a stream has so few magnitudes that none does: a law.
-fn passes(work: &mut [i16; 1024], n: u32, tx_type: u8, lossless: bool, sum: u32) -> bool
+// Rows, then columns, not rounded, where no number leaves 16 bits. Almost every block of a stream has so few magnitudes that none does: a law.
+fn passes(
+    work: &mut [i16; 1024],
+    n: u32,
+    tx_type: u8,
+    lossless: bool,
+    sum: u32,
+) -> Result<(), TooWide>
     requires { Possible n tx_type lossless × (length work.old ≡ 1024) × («sum» ≡ total (area n) work.old) }
-    ensures is { result ≡ within16 n tx_type lossless work.old }
-    ensures then { result ≡ true → work.new ≡ columns (apply (column_pass tx_type lossless) n) (λ z. z) (side n) (rows (apply (row_pass tx_type lossless) n) (side n) work.old) }
+    ensures is { is_ok result ≡ within16 n tx_type lossless work.old }
+    ensures then { is_ok result ≡ true → work.new ≡ columns (apply (column_pass tx_type lossless) n) (λ z. z) (side n) (rows (apply (row_pass tx_type lossless) n) (side n) work.old) }
 {
-    if n >= 3 {
-        if sum <= 31883 {
-            both(work, n, tx_type);
-            return true;
-        }
+    if n >= 3 && sum <= FEW {
+        both(work, n, tx_type);
+        return Ok(());
     }
-    if !rows(work, n, tx_type, lossless) {
-        return false;
-    }
+    rows(work, n, tx_type, lossless)?;
     columns(work, n, tx_type, lossless)
 }
 
-// Round2(x, k) of a number of T.
+// Round2(x, k) of a number of T, and x itself where k is 0.
 fn round2(x: i32, k: u32) -> i32
-    requires { (1 ≤ k) × (k ≤ 6) × Within 32768 x }
-    ensures { result ≡ Round2 x k }
+    requires { (k ≤ 6) × Within 32768 x }
+    ensures { result ≡ rounded x k }
 {
-    (x + (1i32 << (k - 1))) >> k
-}
-
-// The residual to the block, rounded.
-fn give_rounded(block: &mut [i64], work: &[i16; 1024], count: usize, shift: u32)
-    requires { (count ≤ 1024) × (count ≤ length block.old) × (1 ≤ «shift») × («shift» ≤ 6) }
-    ensures { block.new ≡ fill count (λ k. Round2 (get_or work.now k (pos 0)) «shift») block.old }
-{
-    for k in 0..count {
-        block[k] = words::long(round2(narrow::wide(work[k]), shift));
+    if k == 0 {
+        x
+    } else {
+        (x + (1i32 << (k - 1))) >> k
     }
 }
 
-// The residual of a lossless block as it is.
-fn give_plain(block: &mut [i64], work: &[i16; 1024], count: usize)
-    requires { (count ≤ 1024) × (count ≤ length block.old) }
-    ensures { block.new ≡ fill count (λ k. get_or work.now k (pos 0)) block.old }
+// The first `count` numbers of the work to the block, rounded by `bits`.
+fn give_rounded(block: &mut [i64], work: &[i16; 1024], count: usize, bits: u32)
+    requires { (count ≤ 1024) × (count ≤ length block.old) × (bits ≤ 6) }
+    ensures { block.new ≡ fill count (λ k. rounded (get_or work.now k (pos 0)) bits) block.old }
 {
     for k in 0..count {
-        block[k] = words::long(narrow::wide(work[k]));
+        block[k] = words::long(round2(narrow::wide(work[k]), bits));
     }
 }
 
-// The residual to the block. By the size: with literals the compiler shifts by a constant.
+// The residual to the block; that of a lossless block as it is. By the size: with literals the compiler shifts by a constant.
 fn give(block: &mut [i64], work: &[i16; 1024], n: u32, lossless: bool)
     requires { (2 ≤ n) × (n ≤ 5) × (lossless ≡ true → n ≡ 2) × (area n ≤ length block.old) }
     ensures { block.new ≡ fill (area n) (λ k. rounding n lossless (get_or work.now k (pos 0))) block.old }
 {
     if lossless {
-        give_plain(block, work, 16);
+        give_rounded(block, work, 16, 0);
     } else if n == 2 {
         give_rounded(block, work, 16, 4);
     } else if n == 3 {
@@ -226,16 +207,7 @@ fn give(block: &mut [i64], work: &[i16; 1024], n: u32, lossless: bool)
 fn is_flat(work: &[i16; 1024], sum: u32, tx_type: u8, lossless: bool) -> bool
     ensures { result ≡ true → Flat work.now «sum» tx_type lossless }
 {
-    if lossless {
-        return false;
-    }
-    if tx_type != 0 {
-        return false;
-    }
-    if sum > 31883 {
-        return false;
-    }
-    narrow_lines::total(work, 1) == sum
+    !lossless && tx_type == 0 && sum <= FEW && narrow_lines::total(work, 1) == sum
 }
 
 // The one number that place 0 gives everywhere; 11585 is cos64(16).
@@ -261,26 +233,21 @@ fn give_flat(block: &mut [i64], x: i16, n: u32, count: usize)
 pub fn inverse_transform_2d_32(block: &mut [i64], n: u32, tx_type: u8, lossless: bool) -> Answer
     ensures { Driven32 (record { block = block.entry.now; n = n; tx_type = tx_type; lossless = lossless }) result block.exit.now }
 {
-    let answer = idct::shape(block.len(), n, tx_type, lossless);
-    if answers::code(answer) != 0 {
-        return answer;
-    }
+    idct::shape(block.len(), n, tx_type, lossless)?;
     let count = answers::area(n);
     let mut work = narrow_lines::zeros();
-    if !take(&mut work, block, count) {
+    if take(&mut work, block, count).is_err() {
         if any_beyond(block, count) {
-            return Answer::Coefficient;
+            return Err(Refusal::Coefficient);
         }
-        return Answer::Narrow;
+        return Err(Refusal::Narrow);
     }
     let sum = narrow_lines::total(&work, count);
     if is_flat(&work, sum, tx_type, lossless) {
         give_flat(block, work[0], n, count);
-        return Answer::Done;
+        return Ok(());
     }
-    if !passes(&mut work, n, tx_type, lossless, sum) {
-        return Answer::Narrow;
-    }
+    passes(&mut work, n, tx_type, lossless, sum)?;
     give(block, &work, n, lossless);
-    Answer::Done
+    Ok(())
 }

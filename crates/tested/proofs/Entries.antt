@@ -1,9 +1,8 @@
 -- What an entry asks, and what the leaf that it calls tells of its step.
-use mathlib.Core.Path.{◌≡◌, sym}
+use mathlib.Core.Path.{◌≡◌, sym, ap}
 use mathlib.Core.Bool.{Bool, true, false, ◌&&◌}
 use mathlib.Core.List.{List}
-use Prim.Native.Nat.{ℕ, zero, suc, ◌/◌, ◌%◌, ◌≤◌, ◌<◌, zero-le}
-use native.Mathlib.Omega.{arith}
+use Prim.Native.Nat.{ℕ, ◌≤◌, ◌<◌}
 use lib.Dec.{T, leb, ltb, lit<, leb→le, ltb→lt}
 use lib.IntN.{ℤ}
 use mir.Syntax.{w32}
@@ -16,85 +15,59 @@ use Rattle.adst.specs.Inner.{arrays}
 use Rattle.narrow.specs.Inner.{Turns, fits, fits2}
 use Rattle.narrow.proofs.Angles.{Angle, turns}
 use Rattle.narrow.proofs.Safe.{told_T, free_move}
-use Rattle.tested.specs.Inner.{angle_at, OfAngle, known, chosen, step_of, allowed, ready, Told}
+use Rattle.tested.specs.Inner.{OfAngle, known, step_of, ready, Told}
+use Rattle.tested.specs.declared.Step.{Step}
+use Rattle.tested.specs.declared.Step.TheVariants.{Turn, Sums, Products, SumsOfS, Negate, Enter, Leave, Wht}
 use Rattle.tested.proofs.Lists.{t₁, t₂}
 
--- ---- an entry of kind k
-module _ (n e : ℕ) where
-  abbrev k : ℕ
-  k = e / 10000000
+-- ---- what a step asks
+places : (a b m : ℕ) → T (ltb a m && ltb b m) → (a < m) × (b < m)
+places a b m h = (ltb→lt a m (t₁ (ltb a m) (ltb b m) h), ltb→lt b m (t₂ (ltb a m) (ltb b m) h))
 
-  abbrev a : ℕ
-  a = e / 100000 % 100
+adst_size : (n : ℕ) → T (leb 3 n && leb n 4) → (3 ≤ n) × (n ≤ 4)
+adst_size n q = (leb→le 3 n (t₁ (leb 3 n) (leb n 4) q), leb→le n 4 (t₂ (leb 3 n) (leb n 4) q))
 
-  abbrev b : ℕ
-  b = e / 1000 % 100
+module _ (n : ℕ) {e : Step} (h : T (ready n e)) where
+  pub turn_asks : {a b : ℕ} {g : ℤ} {f : Bool} → e ≡ Turn a b g f → (a < 32) × (b < 32) × T (known g)
+  unfolding ready
+  turn_asks {a} {b} {g} q =
+      let k : T ((ltb a 32 && ltb b 32) && known g) = rw q at h in
+      let p = places a b 32 (t₁ (ltb a 32 && ltb b 32) (known g) k) in
+      (p.0, p.1, t₂ (ltb a 32 && ltb b 32) (known g) k)
 
-  abbrev g : ℕ
-  g = e % 1000
+  pub sums_ask : {a b : ℕ} {f : Bool} → e ≡ Sums a b f → (a < 32) × (b < 32)
+  unfolding ready
+  sums_ask {a} {b} q = places a b 32 (rw q at h)
 
-  pub step_is : (m : ℕ) → k ≡ m → step_of n e ≡ chosen n m a b (angle_at g)
-  unfolding step_of
-  step_is m is = rw is
+  pub products_ask : {a b : ℕ} {g : ℤ} → e ≡ Products a b g → (a < 16) × (b < 16) × T (known g)
+  unfolding ready
+  products_ask {a} {b} {g} q =
+      let k : T ((ltb a 16 && ltb b 16) && known g) = rw q at h in
+      let p = places a b 16 (t₁ (ltb a 16 && ltb b 16) (known g) k) in
+      (p.0, p.1, t₂ (ltb a 16 && ltb b 16) (known g) k)
 
-  module _ (h : T (ready n e)) where
-    pub places : (a < 32) × (b < 32) × (k ≤ 11)
-    unfolding ready
-    places =
-        let p = ltb a 32 && ltb b 32 in
-        let l = t₁ (p && leb k 11) (allowed n k a b g) h in
-        let q = t₁ p (leb k 11) l in
-        (ltb→lt a 32 (t₁ (ltb a 32) (ltb b 32) q), ltb→lt b 32 (t₂ (ltb a 32) (ltb b 32) q), leb→le k 11 (t₂ p (leb k 11) l))
+  pub sums_of_s_ask : {a b : ℕ} → e ≡ SumsOfS a b → (a < 16) × (b < 16)
+  unfolding ready
+  sums_of_s_ask {a} {b} q = places a b 16 (rw q at h)
 
-    asks : (m : ℕ) → k ≡ m → T (allowed n m a b g)
-    unfolding ready
-    asks m is = rw is at (t₂ ((ltb a 32 && ltb b 32) && leb k 11) (allowed n k a b g) h)
+  pub negate_asks : {a : ℕ} → e ≡ Negate a → a < 32
+  unfolding ready
+  negate_asks {a} q = ltb→lt a 32 (rw q at h)
 
-    low : T (ltb a 16 && ltb b 16) → (a < 16) × (b < 16)
-    low q = (ltb→lt a 16 (t₁ (ltb a 16) (ltb b 16) q), ltb→lt b 16 (t₂ (ltb a 16) (ltb b 16) q))
+  pub enter_asks : e ≡ Enter → (3 ≤ n) × (n ≤ 4)
+  unfolding ready
+  enter_asks q = adst_size n (rw q at h)
 
-    adst_size : T (leb 3 n && leb n 4) → (3 ≤ n) × (n ≤ 4)
-    adst_size q = (leb→le 3 n (t₁ (leb 3 n) (leb n 4) q), leb→le n 4 (t₂ (leb 3 n) (leb n 4) q))
+  pub leave_asks : e ≡ Leave → (3 ≤ n) × (n ≤ 4)
+  unfolding ready
+  leave_asks q = adst_size n (rw q at h)
 
-    pub turn_asks : k ≡ 1 → (a < 32) × (b < 32) × T (known g)
-    unfolding allowed
-    turn_asks is = (places.0, places.1, asks 1 is)
+  pub shift_asks : {k : ℕ} → e ≡ Wht k → k ≤ 2
+  unfolding ready
+  shift_asks {k} q = leb→le k 2 (rw q at h)
 
-    pub flip_asks : k ≡ 2 → (a < 32) × (b < 32) × T (known g)
-    unfolding allowed
-    flip_asks is = (places.0, places.1, asks 2 is)
-
-    pub products_ask : k ≡ 5 → (a < 16) × (b < 16) × T (known g)
-    unfolding allowed
-    products_ask is = let q = asks 5 is in let l = low (t₁ (ltb a 16 && ltb b 16) (known g) q) in (l.0, l.1, t₂ (ltb a 16 && ltb b 16) (known g) q)
-
-    pub sums_ask : k ≡ 6 → (a < 16) × (b < 16)
-    unfolding allowed
-    sums_ask is = low (asks 6 is)
-
-    pub enter_asks : k ≡ 8 → (3 ≤ n) × (n ≤ 4)
-    unfolding allowed
-    enter_asks is = adst_size (asks 8 is)
-
-    pub leave_asks : k ≡ 9 → (3 ≤ n) × (n ≤ 4)
-    unfolding allowed
-    leave_asks is = adst_size (asks 9 is)
-
-    pub shift_asks : k ≡ 11 → a ≤ 2
-    unfolding allowed
-    shift_asks is = leb→le a 2 (asks 11 is)
-
--- k is none of 0 to n - 1
-abbrev pub Rest : ℕ → ℕ → Type 0
-Rest zero k = Unit
-Rest (suc n) k = Rest n k × (k ≡ n → ⊥)
-
-past : (k n : ℕ) → n ≤ k → (k ≡ n → ⊥) → suc n ≤ k
-past k n h ne = omega arith
-
-pub above : (n k : ℕ) → Rest n k → n ≤ k
-above zero k r = zero-le
-above (suc n) k r = past k n (above n k r.0) r.1
+pub step_is : (n : ℕ) {e x : Step} → e ≡ x → step_of n e ≡ step_of n x
+step_is n q = ap (step_of n) q
 
 -- H exchanged is H of the places exchanged
 pub flip_told : (a b : ℕ) (t : List ℤ) {r : Bool} {u : List ℤ} → Told step fits (Hd b a false) t r u → Told step fits (Hd a b true) t r u

@@ -4,3 +4,4 @@ mod Entries
 mod Going
 mod Four
 mod Done
+pub mod Angles

@@ -1,12 +1,11 @@
 -- The table gives a list of steps: one computation a list, and then of each entry.
-use mathlib.Core.Path.{◌≡◌, sym, subst}
+use mathlib.Core.Path.{◌≡◌, refl, ap, sym, subst, ◌∙◌}
 use mathlib.Core.Bool.{Bool, true, false, ◌&&◌}
 use mathlib.Core.List.{List, [], ◌∷◌}
-use Prim.Native.Nat.{ℕ, zero, suc, ◌+◌, ◌≤◌, ◌<◌, ◌^◌}
+use Prim.Native.Nat.{ℕ, zero, suc, ◌≤◌, ◌<◌, ◌^◌}
 use native.Mathlib.Omega.{arith}
 use lib.Dec.{T, lit≤}
-use lib.ListN.{length, get_or, drop}
-use lib.Seq.{get_or-drop}
+use lib.ListN.{length, get_or}
 use Rattle.whole.specs.Steps.{each, when}
 use Rattle.primitives.specs.Brev.{Brev}
 use Rattle.steps.specs.Step.{A4}
@@ -20,7 +19,8 @@ use Rattle.wht.specs.Wht.{wht_row}
 use Rattle.narrow.proofs.Kept.{placed}
 use Rattle.narrow.proofs.Kept2.{placed2}
 use Rattle.tested.specs.Line.{Sized, pass_of, steps_of}
-use Rattle.tested.specs.Inner.{step_of, ready, given, readies, first_of, Has, Tables}
+use Rattle.tested.specs.Inner.{step_of, ready, given, readies, Gives}
+use Rattle.tested.specs.declared.Step.{Step}
 use Rattle.tested.specs.declared.Kind.{Kind}
 use Rattle.tested.specs.declared.Kind.TheVariants.{Dct, Adst, WhtRow, WhtColumn}
 
@@ -32,13 +32,26 @@ pub t₂ : (a b : Bool) → T (a && b) → T b
 t₂ true b h = h
 t₂ false b h = absurd h
 
-at : (n : ℕ) (es : List ℕ) (ss : List Step2) → given n (length ss) es ≡ ss → T (readies n (length ss) es) → (i : ℕ) → i < length ss
-    → (step_of n (get_or es i 0) ≡ get_or ss i (on A4)) × T (ready n (get_or es i 0))
+-- an entry is its step, and is ready
+at : (n : ℕ) (es : List Step) (ss : List Step2) → given n es ≡ ss → T (readies n es) → (i : ℕ) → i < length es → (d : Step)
+    → (step_of n (get_or es i d) ≡ get_or ss i (on A4)) × T (ready n (get_or es i d))
 unfolding given readies
-at n es [] p h i l = absurd (omega arith)
-at n [] (s ∷ ss) p h i l = absurd h
-at n (e ∷ es) (s ∷ ss) p h zero l = (cc, t₁ (ready n e) (readies n (length ss) es) h)
-at n (e ∷ es) (s ∷ ss) p h (suc i) l = at n es ss (cc) (t₂ (ready n e) (readies n (length ss) es) h) i (omega arith)
+at n [] ss p h i l d = absurd (omega arith)
+at n (e ∷ es) [] p h i l d = cc
+at n (e ∷ es) (s ∷ ss) p h zero l d = (cc, t₁ (ready n e) (readies n es) h)
+at n (e ∷ es) (s ∷ ss) p h (suc i) l d = at n es ss (cc) (t₂ (ready n e) (readies n es) h) i (omega arith) d
+
+long : (n : ℕ) (es : List Step) → length (given n es) ≡ length es
+unfolding given
+long n [] = refl
+long n (e ∷ es) = ap suc (long n es)
+
+module _ {n : ℕ} {es : List Step} {ss : List Step2} (g : Gives n es ss) where
+  pub entry : (i : ℕ) → i < length es → (d : Step) → (step_of n (get_or es i d) ≡ get_or ss i (on A4)) × T (ready n (get_or es i d))
+  entry = at n es ss g.steps g.fine
+
+  pub as_long : length ss ≡ length es
+  as_long = ap length (sym g.steps) ∙ long n es
 
 -- ---- the nine lines: how many steps, and that their places are below 2^n
 pub nine : (P : Kind → ℕ → Type 0) → P Dct 2 → P Dct 3 → P Dct 4 → P Dct 5 → P Adst 2 → P Adst 3 → P Adst 4 → P WhtRow 2 → P WhtColumn 2
@@ -51,33 +64,12 @@ nine P a b c d e f g p q WhtColumn n h = rw h q
 pub sized : (n : ℕ) {k : Kind} (b : Kind) → k ≡ b → Sized k n → Sized b n
 sized n b e h = subst (λ (k : Kind). Sized k n) e h
 
-pub started : (k : ℕ) (b : Kind) (m : ℕ) {n : ℕ} {d : Kind} → first_of b k ≡ m → n ≡ k → d ≡ b → m ≡ first_of d n
-started k b m l e f = rw (e, f) (sym l)
-
-pub counted : (k : ℕ) (b : Kind) (m : ℕ) {n : ℕ} {d : Kind} → length (steps_of (pass_of b) k) ≡ m → n ≡ k → d ≡ b → m ≡ length (steps_of (pass_of d) n)
-counted k b m l e f = rw (e, f) (sym l)
-
 pub all_placed : (k : Kind) (n : ℕ) → Sized k n → T (every (placed2 (2 ^ n)) (steps_of (pass_of k) n))
 unfolding steps_of every placed2 placed Brev steps2 steps3 steps4 steps5 steps6 steps7 tail_at tail dct_steps dct_row each when adst_in adst_out out8 out16 on_t adst8_steps adst16_steps adst_steps wht_row
 all_placed = nine (λ k n. T (every (placed2 (2 ^ n)) (steps_of (pass_of k) n))) tt tt tt tt tt tt tt tt tt
-
-pub in_table : (k : Kind) (n : ℕ) → Sized k n → first_of k n + length (steps_of (pass_of k) n) ≤ 173
-unfolding first_of steps_of steps2 steps3 steps4 steps5 steps6 steps7 tail_at tail dct_steps dct_row each when on_t adst8_steps adst16_steps adst_steps wht_row
-in_table =
-    nine (λ k n. first_of k n + length (steps_of (pass_of k) n) ≤ 173) (lit≤ tt) (lit≤ tt) (lit≤ tt) (lit≤ tt) (lit≤ tt) (lit≤ tt) (lit≤ tt) (lit≤ tt) (lit≤ tt)
 
 -- between 4 and 32 numbers
 pub at_most : (k : Kind) (n : ℕ) → Sized k n → (2 ≤ n) × (n ≤ 5) × (4 ≤ 2 ^ n)
 at_most =
     nine (λ k n. (2 ≤ n) × (n ≤ 5) × (4 ≤ 2 ^ n)) (lit≤ tt, lit≤ tt, lit≤ tt) (lit≤ tt, lit≤ tt, lit≤ tt) (lit≤ tt, lit≤ tt, lit≤ tt) (lit≤ tt, lit≤ tt, lit≤ tt)
     (lit≤ tt, lit≤ tt, lit≤ tt) (lit≤ tt, lit≤ tt, lit≤ tt) (lit≤ tt, lit≤ tt, lit≤ tt) (lit≤ tt, lit≤ tt, lit≤ tt) (lit≤ tt, lit≤ tt, lit≤ tt)
-
--- ---- the table has them all
-has : (es : List ℕ) → Tables es → (k : Kind) (n : ℕ) → Sized k n → Has es k n
-has es t = nine (Has es) t.dct4 t.dct8 t.dct16 t.dct32 t.adst4 t.adst8 t.adst16 t.wht_row t.wht_column
-
-pub entry : (es : List ℕ) → Tables es → (k : Kind) (n : ℕ) → Sized k n → (p : ℕ) → p ≡ first_of k n → (i : ℕ) → i < length (steps_of (pass_of k) n)
-    → let e = get_or es (p + i) 0 in (step_of n e ≡ get_or (steps_of (pass_of k) n) i (on A4)) × T (ready n e)
-entry es t k n h p q i l =
-    let g = has es t k n h in
-    rw (get_or-drop, sym q) at (at n (drop (first_of k n) es) (steps_of (pass_of k) n) g.steps g.fine i l)

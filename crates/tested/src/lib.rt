@@ -3,9 +3,10 @@
 // and not fast.
 #![tactic(auto)]
 
-ghost use Rattle.std.specs.Prelude.{◌≡◌, true, false, ℕ, ◌+◌, ◌*◌, ◌≤◌, ◌<◌, ◌^◌, T, pos, length, get_or};
+ghost use Rattle.std.specs.Prelude.{◌≡◌, is_ok, true, false, ℕ, ◌+◌, ◌*◌, ◌≤◌, ◌<◌, ◌^◌, T, pos, length, get_or};
 ghost use Rattle.whole.specs.Lists.{fill};
 ghost use Rattle.whole.specs.Inner.{AllWithin};
+ghost use Rattle.answers.specs.declared.Refusal.TheVariants.{Narrow};
 ghost use Rattle.answers.specs.Sizes.{side};
 ghost use Rattle.primitives.specs.Brev.{Brev};
 ghost use Rattle.primitives.specs.Rotations.{set_pair};
@@ -20,7 +21,9 @@ ghost use Rattle.blocks.specs.Inner.{set_line, change_line};
 ghost use Rattle.blocks.specs.Inverse.{Dct, apply};
 ghost use Rattle.weights.specs.Inner.{Keeps};
 ghost use Rattle.tested.specs.Line.{pass_of, steps_of, Sized, Line, RowsKeep, ColumnsKeep, Tells};
-ghost use Rattle.tested.specs.Inner.{step_of, angle_at, known, OfAngle, ready, Told, Tables, first_of};
+ghost use Rattle.tested.specs.Inner.{step_of, known, OfAngle, ready, Told, Gives, Tables};
+
+use answers::Refusal;
 
 // The transform of a line; the WHT has a shift of 2 in rows and none in columns.
 #[derive(Clone, Copy)]
@@ -31,242 +34,279 @@ pub enum Kind {
     WhtColumn,
 }
 
+// A step of a line of 2^n numbers t, with 16 products s beside it. A place is a u8; an angle has 64 parts to a half turn; true is for exchanged.
+#[derive(Clone, Copy)]
+enum Step {
+    // The permutation of the DCT.
+    Reverse,
+    // B of two places, by an angle.
+    Turn(u8, u8, i8, bool),
+    // H of two places.
+    Sums(u8, u8, bool),
+    // SB of two places, by an angle.
+    Products(u8, u8, i8),
+    // SH of two places.
+    SumsOfS(u8, u8),
+    // t[a] = -t[a].
+    Negate(u8),
+    // The permutation before the ADST, and the one after it.
+    Enter,
+    Leave,
+    // The ADST of 4 numbers.
+    Adst4,
+    // The WHT, with its shift.
+    Wht(u8),
+}
+
 // The steps of the inverse DCT, of 4, 8, 16 and 32 numbers the first 5, 14, 38 and 98; then those of the inverse ADST of 4, 8 and 16 numbers, 1, 22 and
-// 50; then the WHT of rows and that of columns. An entry is written K_AA_BB_GGG, with places a and b and an angle, below 0 with 200 added. K says what it is:
-// 0 the permutation of the DCT, 1 B, 2 B exchanged, 3 H, 4 H exchanged, 5 SB, 6 SH, 7 T[a] = -T[a], 8 and 9 the permutations of the ADST before
-// and after, 10 the ADST of 4 numbers, 11 the WHT with the shift a.
-const STEPS: [u32; 173] = [
-    0,
-    2_00_01_016,
-    1_02_03_024,
-    3_00_03_000,
-    3_01_02_000,
-    1_04_07_028,
-    1_05_06_012,
-    3_04_05_000,
-    4_06_07_000,
-    2_06_05_016,
-    3_00_07_000,
-    3_01_06_000,
-    3_02_05_000,
-    3_03_04_000,
-    1_08_15_030,
-    1_09_14_014,
-    1_10_13_022,
-    1_11_12_006,
-    3_08_09_000,
-    4_10_11_000,
-    3_12_13_000,
-    4_14_15_000,
-    2_14_09_024,
-    2_10_13_072,
-    3_08_11_000,
-    4_12_15_000,
-    3_09_10_000,
-    4_13_14_000,
-    2_13_10_016,
-    2_12_11_016,
-    3_00_15_000,
-    3_01_14_000,
-    3_02_13_000,
-    3_03_12_000,
-    3_04_11_000,
-    3_05_10_000,
-    3_06_09_000,
-    3_07_08_000,
-    1_16_31_031,
-    1_17_30_015,
-    1_18_29_023,
-    1_19_28_007,
-    1_20_27_027,
-    1_21_26_011,
-    1_22_25_019,
-    1_23_24_003,
-    3_16_17_000,
-    4_18_19_000,
-    3_20_21_000,
-    4_22_23_000,
-    3_24_25_000,
-    4_26_27_000,
-    3_28_29_000,
-    4_30_31_000,
-    2_30_17_028,
-    2_22_25_084,
-    2_26_21_012,
-    2_18_29_068,
-    3_16_19_000,
-    4_20_23_000,
-    3_24_27_000,
-    4_28_31_000,
-    3_17_18_000,
-    4_21_22_000,
-    3_25_26_000,
-    4_29_30_000,
-    2_29_18_024,
-    2_21_26_072,
-    2_28_19_024,
-    2_20_27_072,
-    3_16_23_000,
-    4_24_31_000,
-    3_17_22_000,
-    4_25_30_000,
-    3_18_21_000,
-    4_26_29_000,
-    3_19_20_000,
-    4_27_28_000,
-    2_27_20_016,
-    2_26_21_016,
-    2_25_22_016,
-    2_24_23_016,
-    3_00_31_000,
-    3_01_30_000,
-    3_02_29_000,
-    3_03_28_000,
-    3_04_27_000,
-    3_05_26_000,
-    3_06_25_000,
-    3_07_24_000,
-    3_08_23_000,
-    3_09_22_000,
-    3_10_21_000,
-    3_11_20_000,
-    3_12_19_000,
-    3_13_18_000,
-    3_14_17_000,
-    3_15_16_000,
-    10_00_00_000,
-    8_00_00_000,
-    5_00_01_030,
-    5_02_03_022,
-    5_04_05_014,
-    5_06_07_006,
-    6_00_04_000,
-    6_01_05_000,
-    6_02_06_000,
-    6_03_07_000,
-    5_04_05_024,
-    5_07_06_008,
-    6_04_06_000,
-    6_05_07_000,
-    3_00_02_000,
-    3_01_03_000,
-    2_02_03_016,
-    2_06_07_016,
-    9_00_00_000,
-    7_01_00_000,
-    7_03_00_000,
-    7_05_00_000,
-    7_07_00_000,
-    8_00_00_000,
-    5_00_01_031,
-    5_02_03_027,
-    5_04_05_023,
-    5_06_07_019,
-    5_08_09_015,
-    5_10_11_011,
-    5_12_13_007,
-    5_14_15_003,
-    6_00_08_000,
-    6_01_09_000,
-    6_02_10_000,
-    6_03_11_000,
-    6_04_12_000,
-    6_05_13_000,
-    6_06_14_000,
-    6_07_15_000,
-    5_08_09_028,
-    5_10_11_012,
-    5_12_13_196,
-    5_14_15_180,
-    6_08_12_000,
-    6_09_13_000,
-    6_10_14_000,
-    6_11_15_000,
-    3_00_04_000,
-    3_01_05_000,
-    3_02_06_000,
-    3_03_07_000,
-    5_04_05_024,
-    5_07_06_008,
-    5_12_13_024,
-    5_15_14_008,
-    6_04_06_000,
-    6_05_07_000,
-    6_12_14_000,
-    6_13_15_000,
-    3_00_02_000,
-    3_01_03_000,
-    3_08_10_000,
-    3_09_11_000,
-    1_02_03_048,
-    1_06_07_112,
-    1_10_11_112,
-    1_14_15_048,
-    9_00_00_000,
-    7_01_00_000,
-    7_03_00_000,
-    7_13_00_000,
-    7_15_00_000,
-    11_02_00_000,
-    11_00_00_000,
+// 50; then the WHT of rows and that of columns.
+const STEPS: [Step; 173] = [
+    Step::Reverse,
+    Step::Turn(0, 1, 16, true),
+    Step::Turn(2, 3, 24, false),
+    Step::Sums(0, 3, false),
+    Step::Sums(1, 2, false),
+    Step::Turn(4, 7, 28, false),
+    Step::Turn(5, 6, 12, false),
+    Step::Sums(4, 5, false),
+    Step::Sums(6, 7, true),
+    Step::Turn(6, 5, 16, true),
+    Step::Sums(0, 7, false),
+    Step::Sums(1, 6, false),
+    Step::Sums(2, 5, false),
+    Step::Sums(3, 4, false),
+    Step::Turn(8, 15, 30, false),
+    Step::Turn(9, 14, 14, false),
+    Step::Turn(10, 13, 22, false),
+    Step::Turn(11, 12, 6, false),
+    Step::Sums(8, 9, false),
+    Step::Sums(10, 11, true),
+    Step::Sums(12, 13, false),
+    Step::Sums(14, 15, true),
+    Step::Turn(14, 9, 24, true),
+    Step::Turn(10, 13, 72, true),
+    Step::Sums(8, 11, false),
+    Step::Sums(12, 15, true),
+    Step::Sums(9, 10, false),
+    Step::Sums(13, 14, true),
+    Step::Turn(13, 10, 16, true),
+    Step::Turn(12, 11, 16, true),
+    Step::Sums(0, 15, false),
+    Step::Sums(1, 14, false),
+    Step::Sums(2, 13, false),
+    Step::Sums(3, 12, false),
+    Step::Sums(4, 11, false),
+    Step::Sums(5, 10, false),
+    Step::Sums(6, 9, false),
+    Step::Sums(7, 8, false),
+    Step::Turn(16, 31, 31, false),
+    Step::Turn(17, 30, 15, false),
+    Step::Turn(18, 29, 23, false),
+    Step::Turn(19, 28, 7, false),
+    Step::Turn(20, 27, 27, false),
+    Step::Turn(21, 26, 11, false),
+    Step::Turn(22, 25, 19, false),
+    Step::Turn(23, 24, 3, false),
+    Step::Sums(16, 17, false),
+    Step::Sums(18, 19, true),
+    Step::Sums(20, 21, false),
+    Step::Sums(22, 23, true),
+    Step::Sums(24, 25, false),
+    Step::Sums(26, 27, true),
+    Step::Sums(28, 29, false),
+    Step::Sums(30, 31, true),
+    Step::Turn(30, 17, 28, true),
+    Step::Turn(22, 25, 84, true),
+    Step::Turn(26, 21, 12, true),
+    Step::Turn(18, 29, 68, true),
+    Step::Sums(16, 19, false),
+    Step::Sums(20, 23, true),
+    Step::Sums(24, 27, false),
+    Step::Sums(28, 31, true),
+    Step::Sums(17, 18, false),
+    Step::Sums(21, 22, true),
+    Step::Sums(25, 26, false),
+    Step::Sums(29, 30, true),
+    Step::Turn(29, 18, 24, true),
+    Step::Turn(21, 26, 72, true),
+    Step::Turn(28, 19, 24, true),
+    Step::Turn(20, 27, 72, true),
+    Step::Sums(16, 23, false),
+    Step::Sums(24, 31, true),
+    Step::Sums(17, 22, false),
+    Step::Sums(25, 30, true),
+    Step::Sums(18, 21, false),
+    Step::Sums(26, 29, true),
+    Step::Sums(19, 20, false),
+    Step::Sums(27, 28, true),
+    Step::Turn(27, 20, 16, true),
+    Step::Turn(26, 21, 16, true),
+    Step::Turn(25, 22, 16, true),
+    Step::Turn(24, 23, 16, true),
+    Step::Sums(0, 31, false),
+    Step::Sums(1, 30, false),
+    Step::Sums(2, 29, false),
+    Step::Sums(3, 28, false),
+    Step::Sums(4, 27, false),
+    Step::Sums(5, 26, false),
+    Step::Sums(6, 25, false),
+    Step::Sums(7, 24, false),
+    Step::Sums(8, 23, false),
+    Step::Sums(9, 22, false),
+    Step::Sums(10, 21, false),
+    Step::Sums(11, 20, false),
+    Step::Sums(12, 19, false),
+    Step::Sums(13, 18, false),
+    Step::Sums(14, 17, false),
+    Step::Sums(15, 16, false),
+    Step::Adst4,
+    Step::Enter,
+    Step::Products(0, 1, 30),
+    Step::Products(2, 3, 22),
+    Step::Products(4, 5, 14),
+    Step::Products(6, 7, 6),
+    Step::SumsOfS(0, 4),
+    Step::SumsOfS(1, 5),
+    Step::SumsOfS(2, 6),
+    Step::SumsOfS(3, 7),
+    Step::Products(4, 5, 24),
+    Step::Products(7, 6, 8),
+    Step::SumsOfS(4, 6),
+    Step::SumsOfS(5, 7),
+    Step::Sums(0, 2, false),
+    Step::Sums(1, 3, false),
+    Step::Turn(2, 3, 16, true),
+    Step::Turn(6, 7, 16, true),
+    Step::Leave,
+    Step::Negate(1),
+    Step::Negate(3),
+    Step::Negate(5),
+    Step::Negate(7),
+    Step::Enter,
+    Step::Products(0, 1, 31),
+    Step::Products(2, 3, 27),
+    Step::Products(4, 5, 23),
+    Step::Products(6, 7, 19),
+    Step::Products(8, 9, 15),
+    Step::Products(10, 11, 11),
+    Step::Products(12, 13, 7),
+    Step::Products(14, 15, 3),
+    Step::SumsOfS(0, 8),
+    Step::SumsOfS(1, 9),
+    Step::SumsOfS(2, 10),
+    Step::SumsOfS(3, 11),
+    Step::SumsOfS(4, 12),
+    Step::SumsOfS(5, 13),
+    Step::SumsOfS(6, 14),
+    Step::SumsOfS(7, 15),
+    Step::Products(8, 9, 28),
+    Step::Products(10, 11, 12),
+    Step::Products(12, 13, -4),
+    Step::Products(14, 15, -20),
+    Step::SumsOfS(8, 12),
+    Step::SumsOfS(9, 13),
+    Step::SumsOfS(10, 14),
+    Step::SumsOfS(11, 15),
+    Step::Sums(0, 4, false),
+    Step::Sums(1, 5, false),
+    Step::Sums(2, 6, false),
+    Step::Sums(3, 7, false),
+    Step::Products(4, 5, 24),
+    Step::Products(7, 6, 8),
+    Step::Products(12, 13, 24),
+    Step::Products(15, 14, 8),
+    Step::SumsOfS(4, 6),
+    Step::SumsOfS(5, 7),
+    Step::SumsOfS(12, 14),
+    Step::SumsOfS(13, 15),
+    Step::Sums(0, 2, false),
+    Step::Sums(1, 3, false),
+    Step::Sums(8, 10, false),
+    Step::Sums(9, 11, false),
+    Step::Turn(2, 3, 48, false),
+    Step::Turn(6, 7, 112, false),
+    Step::Turn(10, 11, 112, false),
+    Step::Turn(14, 15, 48, false),
+    Step::Leave,
+    Step::Negate(1),
+    Step::Negate(3),
+    Step::Negate(13),
+    Step::Negate(15),
+    Step::Wht(2),
+    Step::Wht(0),
 ];
 
-// A cosine and a sine.
-#[derive(Clone, Copy)]
-struct CosSin(i32, i32);
-
-// Those of an angle of the table. By arms, because an array constant is built anew at each run-time index.
-fn angle(g: u32) -> CosSin
-    requires { T (known «g») }
-    ensures { OfAngle (angle_at «g») result.0 result.1 }
+// The cosine and the sine of an angle of the table. By arms, because an array constant is built anew at each run-time index.
+fn cos_sin(angle: i8) -> (i32, i32)
+    requires { T (known «angle») }
+    ensures { OfAngle «angle» result.0 result.1 }
 {
-    match g {
-        3 => CosSin(16207, 2404),
-        6 => CosSin(15679, 4756),
-        7 => CosSin(15426, 5520),
-        8 => CosSin(15137, 6270),
-        11 => CosSin(14053, 8423),
-        12 => CosSin(13623, 9102),
-        14 => CosSin(12665, 10394),
-        15 => CosSin(12140, 11003),
-        16 => CosSin(11585, 11585),
-        19 => CosSin(9760, 13160),
-        22 => CosSin(7723, 14449),
-        23 => CosSin(7005, 14811),
-        24 => CosSin(6270, 15137),
-        27 => CosSin(3981, 15893),
-        28 => CosSin(3196, 16069),
-        30 => CosSin(1606, 16305),
-        31 => CosSin(804, 16364),
-        48 => CosSin(-11585, 11585),
-        68 => CosSin(-16069, -3196),
-        72 => CosSin(-15137, -6270),
-        84 => CosSin(-9102, -13623),
-        112 => CosSin(11585, -11585),
-        180 => CosSin(9102, -13623),
-        _ => CosSin(16069, -3196),
+    match angle {
+        -20 => (9102, -13623),
+        3 => (16207, 2404),
+        6 => (15679, 4756),
+        7 => (15426, 5520),
+        8 => (15137, 6270),
+        11 => (14053, 8423),
+        12 => (13623, 9102),
+        14 => (12665, 10394),
+        15 => (12140, 11003),
+        16 => (11585, 11585),
+        19 => (9760, 13160),
+        22 => (7723, 14449),
+        23 => (7005, 14811),
+        24 => (6270, 15137),
+        27 => (3981, 15893),
+        28 => (3196, 16069),
+        30 => (1606, 16305),
+        31 => (804, 16364),
+        48 => (-11585, 11585),
+        68 => (-16069, -3196),
+        72 => (-15137, -6270),
+        84 => (-9102, -13623),
+        112 => (11585, -11585),
+        _ => (16069, -3196),
+    }
+}
+
+// A number that T is given is not of 16 bits.
+#[derive(Clone, Copy, Debug, PartialEq, Eq)]
+pub struct TooWide;
+
+impl From<TooWide> for Refusal {
+    ghost from_gives = { λ _ refusal. refusal ≡ Narrow };
+
+    fn from(_: TooWide) -> Refusal {
+        Refusal::Narrow
     }
 }
 
 // x to place a and y to place b, or exchanged, where both are of 16 bits.
-fn put(t: &mut [i16; 32], a: usize, b: usize, x: i32, y: i32, flip: bool) -> bool
+fn put(t: &mut [i16; 32], a: usize, b: usize, x: i32, y: i32, flip: bool) -> Result<(), TooWide>
     requires { (a < 32) × (b < 32) }
-    ensures { (result ≡ short_pair x y) × (result ≡ true → t.new ≡ set_pair t.old a b x y flip) }
+    ensures { (is_ok result ≡ short_pair x y) × (is_ok result ≡ true → t.new ≡ set_pair t.old a b x y flip) }
 {
     if !narrow::is_short(x) {
-        return false;
+        return Err(TooWide);
     }
     if !narrow::is_short(y) {
-        return false;
+        return Err(TooWide);
     }
     narrow::put16(t, a, b, x, y, flip);
-    true
+    Ok(())
 }
 
 // B, by the cosine and the sine of its angle.
-fn rotate(t: &mut [i16; 32], a: usize, b: usize, cos: i32, sin: i32, flip: bool) -> bool
+fn rotate(
+    t: &mut [i16; 32],
+    a: usize,
+    b: usize,
+    cos: i32,
+    sin: i32,
+    flip: bool,
+) -> Result<(), TooWide>
     requires { Turns a b cos sin }
-    ensures { (result ≡ spin_fits t.old a b cos sin) × (result ≡ true → t.new ≡ spin t.old a b cos sin flip) }
+    ensures { (is_ok result ≡ spin_fits t.old a b cos sin) × (is_ok result ≡ true → t.new ≡ spin t.old a b cos sin flip) }
 {
     let r = narrow::turn(t, a, b, cos, sin);
     let x = narrow::round14(r.x);
@@ -275,18 +315,18 @@ fn rotate(t: &mut [i16; 32], a: usize, b: usize, cos: i32, sin: i32, flip: bool)
 }
 
 // B.
-fn turn(t: &mut [i16; 32], a: usize, b: usize, g: u32, flip: bool) -> bool
-    requires { (a < 32) × (b < 32) × T (known «g») }
-    ensures { Told step fits (Bf a b (angle_at «g») flip) t.old result t.new }
+fn turn(t: &mut [i16; 32], a: usize, b: usize, angle: i8, flip: bool) -> Result<(), TooWide>
+    requires { (a < 32) × (b < 32) × T (known «angle») }
+    ensures { Told step fits (Bf a b «angle» flip) t.old (is_ok result) t.new }
 {
-    let c = angle(g);
-    rotate(t, a, b, c.0, c.1, flip)
+    let (cos, sin) = cos_sin(angle);
+    rotate(t, a, b, cos, sin, flip)
 }
 
 // H without its flip.
-fn sums(t: &mut [i16; 32], a: usize, b: usize) -> bool
+fn sums(t: &mut [i16; 32], a: usize, b: usize) -> Result<(), TooWide>
     requires { (a < 32) × (b < 32) }
-    ensures { Told step fits (Hd a b false) t.old result t.new }
+    ensures { Told step fits (Hd a b false) t.old (is_ok result) t.new }
 {
     let p = narrow::wide(t[a]);
     let q = narrow::wide(t[b]);
@@ -294,18 +334,18 @@ fn sums(t: &mut [i16; 32], a: usize, b: usize) -> bool
 }
 
 // SB with its flip.
-fn products(t: &[i16; 32], s: &mut [i32; 16], a: usize, b: usize, g: u32)
-    requires { (a < 16) × (b < 16) × T (known «g») }
-    ensures { arrays t.now s.new ≡ step2 (SB a b (angle_at «g») true) (arrays t.now s.old) }
+fn products(t: &[i16; 32], s: &mut [i32; 16], a: usize, b: usize, angle: i8)
+    requires { (a < 16) × (b < 16) × T (known «angle») }
+    ensures { arrays t.now s.new ≡ step2 (SB a b «angle» true) (arrays t.now s.old) }
 {
-    let c = angle(g);
-    narrow::fsb16(t, s, a, b, c.0, c.1, true);
+    let (cos, sin) = cos_sin(angle);
+    narrow::fsb16(t, s, a, b, cos, sin, true);
 }
 
 // SH.
-fn sums_of_s(t: &mut [i16; 32], s: &[i32; 16], a: usize, b: usize) -> bool
+fn sums_of_s(t: &mut [i16; 32], s: &[i32; 16], a: usize, b: usize) -> Result<(), TooWide>
     requires { (a < 16) × (b < 16) × AllWithin reach s.now }
-    ensures { Told step2 fits2 (SH a b) (arrays t.old s.now) result (arrays t.new s.now) }
+    ensures { Told step2 fits2 (SH a b) (arrays t.old s.now) (is_ok result) (arrays t.new s.now) }
 {
     let p = s[a];
     let q = s[b];
@@ -315,16 +355,16 @@ fn sums_of_s(t: &mut [i16; 32], s: &[i32; 16], a: usize, b: usize) -> bool
 }
 
 // T[i] = -T[i].
-fn negate(t: &mut [i16; 32], i: usize) -> bool
+fn negate(t: &mut [i16; 32], i: usize) -> Result<(), TooWide>
     requires { i < 32 }
-    ensures { Told step fits (Neg i) t.old result t.new }
+    ensures { Told step fits (Neg i) t.old (is_ok result) t.new }
 {
     let p = -narrow::wide(t[i]);
     if !narrow::is_short(p) {
-        return false;
+        return Err(TooWide);
     }
     narrow::fneg16(t, i);
-    true
+    Ok(())
 }
 
 // The permutation of the DCT, in place: t[i] and t[brev(n, i)] change places for each i below its reverse.
@@ -367,9 +407,9 @@ fn leave(t: &mut [i16; 32], n: u32)
 }
 
 // The ADST of 4 numbers; 5283, 9929 and 13377 are SINPI_1_9 to SINPI_3_9, and SINPI_4_9 is the sum of the first two.
-fn adst4(t: &mut [i16; 32]) -> bool
+fn adst4(t: &mut [i16; 32]) -> Result<(), TooWide>
     requires { 4 ≤ length t.old }
-    ensures { Told step fits A4 t.old result t.new }
+    ensures { Told step fits A4 t.old (is_ok result) t.new }
 {
     let a = narrow::wide(t[0]);
     let b = narrow::wide(t[1]);
@@ -384,16 +424,14 @@ fn adst4(t: &mut [i16; 32]) -> bool
     let y1 = narrow::round14(x1 + x3);
     let y2 = narrow::round14(x2);
     let y3 = narrow::round14(x0 + x1 - x3);
-    if !put(t, 0, 1, y0, y1, false) {
-        return false;
-    }
+    put(t, 0, 1, y0, y1, false)?;
     put(t, 2, 3, y2, y3, false)
 }
 
 // The WHT.
-fn wht4(t: &mut [i16; 32], shift: u32) -> bool
+fn wht4(t: &mut [i16; 32], shift: u32) -> Result<(), TooWide>
     requires { («shift» ≤ 2) × (4 ≤ length t.old) }
-    ensures { Told step fits (Wh «shift») t.old result t.new }
+    ensures { Told step fits (Wh «shift») t.old (is_ok result) t.new }
 {
     let mut a = narrow::wide(t[0]) >> shift;
     let mut c = narrow::wide(t[1]) >> shift;
@@ -406,116 +444,88 @@ fn wht4(t: &mut [i16; 32], shift: u32) -> bool
     c = e - c;
     a -= b;
     d += c;
-    if !put(t, 0, 1, a, b, false) {
-        return false;
-    }
+    put(t, 0, 1, a, b, false)?;
     put(t, 2, 3, c, d, false)
 }
 
-// The step of an entry.
-fn apply(t: &mut [i16; 32], s: &mut [i32; 16], n: u32, e: u32) -> bool
-    requires { (2 ≤ n) × (n ≤ 5) × T (ready n «e») × (4 ≤ length t.old) × AllWithin reach s.old }
-    ensures { Told step2 fits2 (step_of n «e») (arrays t.old s.old) result (arrays t.new s.new) }
+// One step of a line of 2^n numbers.
+fn apply(t: &mut [i16; 32], s: &mut [i32; 16], n: u32, step: Step) -> Result<(), TooWide>
+    requires { (2 ≤ n) × (n ≤ 5) × T (ready n step) × (4 ≤ length t.old) × AllWithin reach s.old }
+    ensures { Told step2 fits2 (step_of n step) (arrays t.old s.old) (is_ok result) (arrays t.new s.new) }
 {
-    let a = (e / 100000 % 100) as usize;
-    let b = (e / 1000 % 100) as usize;
-    let g = e % 1000;
-    match e / 10000000 {
-        0 => {
+    match step {
+        Step::Reverse => {
             reverse(t, n);
-            true
+            Ok(())
         }
-        1 => turn(t, a, b, g, false),
-        2 => turn(t, a, b, g, true),
-        3 => sums(t, a, b),
-        4 => sums(t, b, a),
-        5 => {
-            products(t, s, a, b, g);
-            true
+        Step::Turn(a, b, angle, flip) => turn(t, a as usize, b as usize, angle, flip),
+        Step::Sums(a, b, flip) => {
+            if flip {
+                sums(t, b as usize, a as usize)
+            } else {
+                sums(t, a as usize, b as usize)
+            }
         }
-        6 => sums_of_s(t, s, a, b),
-        7 => negate(t, a),
-        8 => {
+        Step::Products(a, b, angle) => {
+            products(t, s, a as usize, b as usize, angle);
+            Ok(())
+        }
+        Step::SumsOfS(a, b) => sums_of_s(t, s, a as usize, b as usize),
+        Step::Negate(a) => negate(t, a as usize),
+        Step::Enter => {
             enter(t, n);
-            true
+            Ok(())
         }
-        9 => {
+        Step::Leave => {
             leave(t, n);
-            true
+            Ok(())
         }
-        10 => adst4(t),
-        _ => wht4(t, a as u32),
+        Step::Adst4 => adst4(t),
+        Step::Wht(shift) => wht4(t, shift as u32),
     }
 }
 
 // The table, once a pass: an array constant is built anew at each run-time index.
-fn table() -> [u32; 173]
+fn table() -> [Step; 173]
     ensures { Tables result }
 {
     STEPS
 }
 
-// Where the steps of a line start.
-fn first(n: u32, kind: Kind) -> usize
-    requires { Sized kind n }
-    ensures { result ≡ first_of kind n }
+// The steps of a line.
+fn steps(table: &[Step; 173], n: u32, kind: Kind) -> &[Step]
+    requires { Tables table.now × Sized kind n }
+    ensures { Gives n result.now (steps_of (pass_of kind) n) }
 {
-    match kind {
-        Kind::Dct => 0,
-        Kind::Adst => match n {
-            2 => 98,
-            3 => 99,
-            _ => 121,
-        },
-        Kind::WhtRow => 171,
-        Kind::WhtColumn => 172,
-    }
-}
-
-// How many steps there are.
-fn count(n: u32, kind: Kind) -> usize
-    requires { Sized kind n }
-    ensures { result ≡ length (steps_of (pass_of kind) n) }
-{
-    match kind {
-        Kind::Dct => match n {
-            2 => 5,
-            3 => 14,
-            4 => 38,
-            _ => 98,
-        },
-        Kind::Adst => match n {
-            2 => 1,
-            3 => 22,
-            _ => 50,
-        },
-        Kind::WhtRow => 1,
-        Kind::WhtColumn => 1,
+    match (kind, n) {
+        (Kind::Dct, 2) => &table[..5],
+        (Kind::Dct, 3) => &table[..14],
+        (Kind::Dct, 4) => &table[..38],
+        (Kind::Dct, _) => &table[..98],
+        (Kind::Adst, 2) => &table[98..99],
+        (Kind::Adst, 3) => &table[99..121],
+        (Kind::Adst, _) => &table[121..171],
+        (Kind::WhtRow, _) => &table[171..172],
+        (Kind::WhtColumn, _) => &table[172..],
     }
 }
 
 // The DCT of 4 numbers, step by step.
-fn dct4(t: &mut [i16; 32]) -> bool
+fn dct4(t: &mut [i16; 32]) -> Result<(), TooWide>
     requires { (4 ≤ length t.old) × (shorts 4 t.old ≡ true) }
-    ensures { Line Dct 2 t.old result t.new }
+    ensures { Line Dct 2 t.old (is_ok result) t.new }
 {
     reverse(t, 2);
-    if !turn(t, 0, 1, 16, true) {
-        return false;
-    }
-    if !turn(t, 2, 3, 24, false) {
-        return false;
-    }
-    if !sums(t, 0, 3) {
-        return false;
-    }
+    turn(t, 0, 1, 16, true)?;
+    turn(t, 2, 3, 24, false)?;
+    sums(t, 0, 3)?;
     sums(t, 1, 2)
 }
 
 // A line of 4 numbers, with no table: a third of the blocks of a video are 4 by 4.
-fn line4(t: &mut [i16; 32], kind: Kind) -> bool
+fn line4(t: &mut [i16; 32], kind: Kind) -> Result<(), TooWide>
     requires { (4 ≤ length t.old) × (shorts 4 t.old ≡ true) }
-    ensures { Line (pass_of kind) 2 t.old result t.new }
+    ensures { Line (pass_of kind) 2 t.old (is_ok result) t.new }
 {
     match kind {
         Kind::Dct => dct4(t),
@@ -525,22 +535,19 @@ fn line4(t: &mut [i16; 32], kind: Kind) -> bool
     }
 }
 
-// The inverse transform of the first 2^n numbers of t: true where they and every number on the way are of 16 bits. Where false, t is as it came to be.
-fn line(t: &mut [i16; 32], steps: &[u32; 173], n: u32, kind: Kind) -> bool
-    requires { Tables steps.now × Sized kind n × (2 ^ n ≤ length t.old) × (shorts (2 ^ n) t.old ≡ true) }
-    ensures { Line (pass_of kind) n t.old result t.new }
+// The inverse transform of the first 2^n numbers of t, where they and every number on the way are of 16 bits. Where not, t is as it came to be.
+fn line(t: &mut [i16; 32], steps: &[Step], n: u32, kind: Kind) -> Result<(), TooWide>
+    requires { Gives n steps.now (steps_of (pass_of kind) n) × Sized kind n × (2 ^ n ≤ length t.old) × (shorts (2 ^ n) t.old ≡ true) }
+    ensures { Line (pass_of kind) n t.old (is_ok result) t.new }
 {
     if n == 2 {
         return line4(t, kind);
     }
-    let at = first(n, kind);
     let mut s = [0i32; 16];
-    for i in 0..count(n, kind) {
-        if !apply(t, &mut s, n, steps[at + i]) {
-            return false;
-        }
+    for step in steps {
+        apply(t, &mut s, n, *step)?;
     }
-    true
+    Ok(())
 }
 
 // The n numbers of s at start, start + step, .. into the first places of t. As numbers of s they are of 16 bits.
@@ -564,47 +571,50 @@ fn store(s: &mut [i16; 1024], t: &[i16; 32], start: usize, step: usize, n: usize
     }
 }
 
-// One line: its first number at `at`, each `step` past the one before; false where a number leaves 16 bits, and the block is then as it was.
-fn one(z: &mut [i16; 1024], steps: &[u32; 173], at: usize, step: usize, n: u32, kind: Kind) -> bool
-    requires { Tables steps.now × (2 ≤ n) × (n ≤ 5) × Sized kind n × ((k : ℕ) → k < side n → at + k * step < 1024) }
-    ensures { Tells result (Keeps (pass_of kind) n (line at step (side n) z.entry.now)) (z.exit.now ≡ change_line (apply (pass_of kind) n) (λ z. z) at step (side n) z.entry.now) }
+// One line: its first number at `at`, each `step` past the one before. Where a number leaves 16 bits, the block is as it was.
+fn one(
+    z: &mut [i16; 1024],
+    steps: &[Step],
+    at: usize,
+    step: usize,
+    n: u32,
+    kind: Kind,
+) -> Result<(), TooWide>
+    requires { Gives n steps.now (steps_of (pass_of kind) n) × (2 ≤ n) × (n ≤ 5) × Sized kind n × ((k : ℕ) → k < side n → at + k * step < 1024) }
+    ensures { Tells (is_ok result) (Keeps (pass_of kind) n (line at step (side n) z.entry.now)) (z.exit.now ≡ change_line (apply (pass_of kind) n) (λ z. z) at step (side n) z.entry.now) }
 {
     let n0 = answers::side(n);
     let mut t = [0i16; 32];
     load(&mut t, z, at, step, n0);
-    if !line(&mut t, steps, n, kind) {
-        return false;
-    }
+    line(&mut t, steps, n, kind)?;
     store(z, &t, at, step, n0);
-    true
+    Ok(())
 }
 
-// All columns of a block, not rounded; false where a number leaves 16 bits.
-pub fn columns(z: &mut [i16; 1024], n: u32, kind: Kind) -> bool
+// All columns of a block, not rounded, where no number leaves 16 bits.
+pub fn columns(z: &mut [i16; 1024], n: u32, kind: Kind) -> Result<(), TooWide>
     requires { (2 ≤ n) × (n ≤ 5) × Sized kind n × (length z.old ≡ 1024) }
-    ensures { Tells result (ColumnsKeep (pass_of kind) n z.entry.now) (z.exit.now ≡ columns (apply (pass_of kind) n) (λ z. z) (side n) z.entry.now) }
+    ensures { Tells (is_ok result) (ColumnsKeep (pass_of kind) n z.entry.now) (z.exit.now ≡ columns (apply (pass_of kind) n) (λ z. z) (side n) z.entry.now) }
 {
-    let steps = table();
+    let table = table();
+    let steps = steps(&table, n, kind);
     let n0 = answers::side(n);
     for j in 0..n0 {
-        if !one(z, &steps, j, n0, n, kind) {
-            return false;
-        }
+        one(z, steps, j, n0, n, kind)?;
     }
-    true
+    Ok(())
 }
 
-// All rows of a block; false where a number leaves 16 bits.
-pub fn rows(z: &mut [i16; 1024], n: u32, kind: Kind) -> bool
+// All rows of a block, where no number leaves 16 bits.
+pub fn rows(z: &mut [i16; 1024], n: u32, kind: Kind) -> Result<(), TooWide>
     requires { (2 ≤ n) × (n ≤ 5) × Sized kind n × (length z.old ≡ 1024) }
-    ensures { Tells result (RowsKeep (pass_of kind) n z.old) (z.new ≡ rows (apply (pass_of kind) n) (side n) z.old) }
+    ensures { Tells (is_ok result) (RowsKeep (pass_of kind) n z.old) (z.new ≡ rows (apply (pass_of kind) n) (side n) z.old) }
 {
-    let steps = table();
+    let table = table();
+    let steps = steps(&table, n, kind);
     let n0 = answers::side(n);
     for i in 0..n0 {
-        if !one(z, &steps, i * n0, 1, n, kind) {
-            return false;
-        }
+        one(z, steps, i * n0, 1, n, kind)?;
     }
-    true
+    Ok(())
 }

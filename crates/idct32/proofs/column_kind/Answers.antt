@@ -8,5 +8,5 @@ returns-then-lossless c = rw c.if-lossless.true
 pub returns-then-column_dct : goal.returns-then-column_dct
 returns-then-column_dct c = rw (c.if-lossless.false, sym c.column_dct.ensures ∙ c.if-column_dct.true)
 
-pub returns : goal.returns
-returns c = rw (c.if-lossless.false, sym c.column_dct.ensures ∙ c.if-column_dct.false)
+pub returns-else-column_dct : goal.returns-else-column_dct
+returns-else-column_dct c = rw (c.if-lossless.false, sym c.column_dct.ensures ∙ c.if-column_dct.false)

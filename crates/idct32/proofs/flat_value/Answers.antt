@@ -1,6 +1,7 @@
 use mathlib.Core.Path.{◌≡◌, ap, ◌∙◌}
-use Prim.Native.Nat.{ℕ}
+use Prim.Native.Nat.{ℕ, ◌≤◌}
 use native.Mathlib.Omega.{arith}
+use borrow.Author.Tests.{ne_eqb}
 use lib.IntN.{ℤ, pos}
 use mir.Syntax.{w32}
 use Rattle.whole.specs.Round.{Round2}
@@ -10,6 +11,7 @@ use Rattle.whole.proofs.Within.{within_le}
 use Rattle.steps.specs.Inner.{turned}
 use Rattle.blocks.specs.Inner.{dc_value}
 use Rattle.idct32.proofs.Flat.{turned_within, bits_most}
+use Rattle.idct32.specs.Inner.{rounded}
 use Rattle.idct32.proofs.flat_value.Goals as goal
 use Rattle.idct32.proofs.flat_value.Goals.{After-round14-column, After-round14-row}
 
@@ -35,13 +37,18 @@ column c = rw (column_is c) (within_le (omega arith) (turned_within (row c.befor
 pub round2-requires : goal.round2-requires
 round2-requires c =
     let r = c.rounding_bits.ensures in
-    (r.1, rw r.0 (bits_most c.args.n c.requires.0 c.requires.1), within w32 32768 (loc (column c.before)) tt tt)
+    (rw r.0 (bits_most c.args.n c.requires.0 c.requires.1), within w32 32768 (loc (column c.before)) tt tt)
+
+some_bits : (x : ℤ) (k : ℕ) → 1 ≤ k → rounded x k ≡ Round2 x k
+unfolding rounded
+some_bits x k h = rw (ne_eqb k 0 (λ e. omega arith))
 
 pub returns : goal.returns
 unfolding dc_value
 returns c =
     rd_ok w32 c.round2.type_inv
     ∙ c.round2.ensures
+    ∙ some_bits _ c.rounding_bits.result c.rounding_bits.ensures.1
     ∙ ap (λ (u : ℤ). Round2 u c.rounding_bits.result) (value w32 (loc (column c.before.before)) tt ∙ column_is c.before.before ∙ ap turned (row_is c.before.before.before))
     ∙ ap (λ (k : ℕ). Round2 (turned (turned c.args.x)) k) c.rounding_bits.ensures.0
 

@@ -1,26 +1,30 @@
+-- `idct32::is_short` meets its contract.
+use mathlib.Core.Path.{◌≡◌, sym, ◌∙◌}
+use mathlib.Core.Bool.{true, false}
+use Prim.Native.Nat.{suc}
 use native.Mathlib.Omega.{arith}
-use lib.IntN.{pos, negsuc}
+use borrow.Author.Tests.{leb-true, leb-false, le-leb, lt-leb}
+use lib.IntN.{ℤ, pos, negsuc}
+use lib.Signed.{le_z}
 use mir.Facts.{to_z-of_z}
-use mathlib.Core.Path.{sym}
-use Rattle.whole.proofs.Parts.{lt_z_true, lt_z_false, apart}
-use Rattle.narrow.proofs.Short.{short_in, short_above, short_below}
+use Rattle.narrow.specs.Kept.{short}
+use Rattle.narrow.proofs.Kept.{and_yes}
 use Rattle.idct32.proofs.is_short.Goals as goal
 
-pub returns-then-x-gt32767 : goal.returns-then-x-gt32767
-returns-then-x-gt32767 c =
-    let x = c.args.x in
-    let h = lt_z_true (pos 32767) x (rw (to_z-of_z c.ranges.x) at c.if-x-gt32767.true) in
-    sym (short_above x (omega arith))
+-- the second test, where the first passed
+upper : (x : ℤ) → le_z (negsuc 32767) x ≡ true → le_z x (pos 32767) ≡ short x
+unfolding short
+upper (pos a) h = sym (and_yes _)
+upper (negsuc a) h = sym (le-leb (suc a) 32768 (omega (arith, leb-true a 32767 h)))
 
-pub returns-then-x-ltminus32768 : goal.returns-then-x-ltminus32768
-returns-then-x-ltminus32768 c =
-    let x = c.args.x in
-    let h = lt_z_true x (negsuc 32767) (rw (to_z-of_z c.ranges.x) at c.if-x-ltminus32768.true) in
-    sym (short_below x (omega arith))
+-- the first, where it failed
+lower : (x : ℤ) → le_z (negsuc 32767) x ≡ false → le_z (negsuc 32767) x ≡ short x
+unfolding short
+lower (pos a) h = cc
+lower (negsuc a) h = h ∙ sym (lt-leb (suc a) 32768 (omega (arith, leb-false a 32767 h)))
 
-pub returns : goal.returns
-returns c =
-    let x = c.args.x in
-    let h = lt_z_false (pos 32767) x (rw (to_z-of_z c.ranges.x) at c.if-x-gt32767.false) in
-    let k = lt_z_false x (negsuc 32767) (rw (to_z-of_z c.ranges.x) at c.if-x-ltminus32768.false) in
-    sym (short_in x (omega (arith, apart x)) (omega (arith, apart x)))
+pub returns-then-x-geminus32768 : goal.returns-then-x-geminus32768
+returns-then-x-geminus32768 c = rw (to_z-of_z c.ranges.x) (upper c.args.x (rw (to_z-of_z c.ranges.x) at c.if-x-geminus32768.true))
+
+pub returns-else-x-geminus32768 : goal.returns-else-x-geminus32768
+returns-else-x-geminus32768 c = rw (to_z-of_z c.ranges.x) (lower c.args.x (rw (to_z-of_z c.ranges.x) at c.if-x-geminus32768.false))

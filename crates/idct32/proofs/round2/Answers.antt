@@ -2,6 +2,7 @@ use mathlib.Core.Path.{◌≡◌}
 use Prim.Native.Nat.{ℕ, ◌+◌, ◌-◌, ◌*◌, ◌%◌, ◌^◌, ◌≤◌}
 use native.Mathlib.Nat.{mod-eq_of_lt, one-mul}
 use native.Mathlib.Omega.{arith}
+use borrow.Author.Tests.{ne_eqb}
 use lib.IntN.{ℤ, pos, ◌+ℤ◌}
 use lib.Pow.{pow_mono}
 use lib.Dec.{lit<}
@@ -11,6 +12,7 @@ use mir.Facts.{to_z-of_z, to_z_pos}
 use Rattle.whole.proofs.Within.{sfits_shr, within_add, within_sfits}
 use Rattle.whole.specs.Round.{Round2}
 use Rattle.whole.specs.Within.{Within}
+use Rattle.idct32.specs.Inner.{rounded}
 use Rattle.idct32.proofs.round2.Goals as goal
 
 module _ (x : ℤ) (n : ℕ) (h : n ≤ 6) (b : Within 32768 x) where
@@ -25,12 +27,16 @@ module _ (x : ℤ) (n : ℕ) (h : n ≤ 6) (b : Within 32768 x) where
 
 pub overflow_add-result : goal.overflow_add-result
 overflow_add-result c =
-    rw (to_z-of_z c.ranges.x, half c.args.x c.args.k c.requires.1 c.requires.2)
-    (sum_fits c.args.x c.args.k c.requires.1 c.requires.2)
+    rw (to_z-of_z c.ranges.x, half c.args.x c.args.k c.requires.0 c.requires.1)
+    (sum_fits c.args.x c.args.k c.requires.0 c.requires.1)
 
-pub returns : goal.returns
-unfolding Round2
-returns c =
-    let fs = sum_fits c.args.x c.args.k c.requires.1 c.requires.2 in
-    rw (to_z-of_z c.ranges.x, half c.args.x c.args.k c.requires.1 c.requires.2, to_z-of_z fs)
+pub returns-then-k-eq0 : goal.returns-then-k-eq0
+unfolding rounded
+returns-then-k-eq0 c = rw (to_z-of_z c.ranges.x, c.if-k-eq0.true)
+
+pub returns-else-k-eq0 : goal.returns-else-k-eq0
+unfolding rounded Round2
+returns-else-k-eq0 c =
+    let fs = sum_fits c.args.x c.args.k c.requires.0 c.requires.1 in
+    rw (ne_eqb c.args.k 0 c.if-k-eq0.false, to_z-of_z c.ranges.x, half c.args.x c.args.k c.requires.0 c.requires.1, to_z-of_z fs)
     (to_z-of_z (sfits_shr (2 ^ c.args.k) fs))

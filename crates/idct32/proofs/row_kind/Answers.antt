@@ -8,5 +8,5 @@ returns-then-lossless c = rw c.if-lossless.true
 pub returns-then-row_dct : goal.returns-then-row_dct
 returns-then-row_dct c = rw (c.if-lossless.false, sym c.row_dct.ensures ∙ c.if-row_dct.true)
 
-pub returns : goal.returns
-returns c = rw (c.if-lossless.false, sym c.row_dct.ensures ∙ c.if-row_dct.false)
+pub returns-else-row_dct : goal.returns-else-row_dct
+returns-else-row_dct c = rw (c.if-lossless.false, sym c.row_dct.ensures ∙ c.if-row_dct.false)

@@ -1,5 +1,6 @@
 -- `idct32::rows` meets its contract.
 use mathlib.Core.Path.{sym, subst}
+use Rattle.std.specs.Prelude.{is_ok}
 use Rattle.blocks.specs.Inverse.{Pass}
 use Rattle.blocks.proofs.Passes.{Valid, row_valid}
 use Rattle.tested.specs.Line.{pass_of}
@@ -16,4 +17,4 @@ pub returns : goal.returns
 returns c =
     let o = c.rows.ensures in
     let e = c.row_kind.ensures in
-    record { is = rw e at (told_rows (pass_of c.row_kind.result) c.args.n c.args.work.now c.rows.result o); then = rw e at o.made }
+    record { is = rw e at (told_rows (pass_of c.row_kind.result) c.args.n c.args.work.now (is_ok c.rows.result) o); then = rw e at o.made }

@@ -1,6 +1,6 @@
 -- `idct32::take` meets its contract.
 use mathlib.Core.Path.{◌≡◌, sym, ◌∙◌}
-use mathlib.Core.Bool.{true, false}
+use mathlib.Core.Bool.{true}
 use Rattle.narrow.specs.Kept.{shorts}
 use Rattle.idct32.proofs.Scan.{never}
 use Rattle.idct32.proofs.take.Goals as goal

@@ -1,7 +1,7 @@
 -- `tested::adst4` meets its contract.
 use mathlib.Core.Path.{◌≡◌, sym, ap, ap₂, ◌∙◌, subst}
-use mathlib.Core.Bool.{true, false, not}
 use lib.Dec.{lit<}
+use Rattle.std.specs.Prelude.{is_ok as was_ok}
 use lib.IntN.{ℤ, pos, ◌+ℤ◌, ◌-ℤ◌, ◌*ℤ◌}
 use lib.ListN.{get_or}
 use mir.Syntax.{w32}
@@ -12,6 +12,7 @@ use Rattle.steps.specs.Step.{step, adst4}
 use Rattle.narrow.specs.Inner.{fits}
 use Rattle.narrow.proofs.Locals.{read, round_is}
 use Rattle.tested.proofs.Four.{sum0, sum1, sum0_is, sum1_is, last_within, four_stops, four_told, same_four, adst0, adst1, adst2, adst3}
+use Rattle.tested.proofs.Answers.{left, gone, stayed}
 use Rattle.tested.proofs.adst4.Goals as goal
 use Rattle.tested.proofs.adst4.Goals.{After-round14-y3, After-wide-d}
 
@@ -105,20 +106,20 @@ module _ (q : After-round14-y3) where
   same : (f : ℤ → ℤ → ℤ → ℤ → ℤ) → at f ≡ of f
   same f = same_four f (a_is q.before.before.before.before) (b_is q.before.before.before.before) (c_is q.before.before.before.before) (d_is q.before.before.before.before)
 
-pub returns-then-not-put : goal.returns-then-not-put
+pub returns-in_err-put : goal.returns-in_err-put
 unfolding fits step adst4
-returns-then-not-put c =
-    four_stops c.args.t.now c.requires (of c.before.before.before adst0) (of c.before.before.before adst1) (of c.before.before.before adst2) (of c.before.before.before adst3) (rw (e0 c.before.before.before ∙ same c.before.before.before adst0, e1 c.before.before.before ∙ same c.before.before.before adst1) at c.put.ensures.0) (ap not c.if-not-put.true)
+returns-in_err-put c =
+    rw (gone c.from_residual.result c.from_residual.ensures.0) (four_stops c.args.t.now c.requires (of c.before.before.before.before.before adst0) (of c.before.before.before.before.before adst1) (of c.before.before.before.before.before adst2) (of c.before.before.before.before.before adst3) (rw (e0 c.before.before.before.before.before ∙ same c.before.before.before.before.before adst0, e1 c.before.before.before.before.before ∙ same c.before.before.before.before.before adst1) at c.put.ensures.0) (left c.in_err-put.was))
 
 pub returns : goal.returns
 unfolding fits step adst4
 returns c =
-    let f0 = e0 c.before.before.before.before.before ∙ same c.before.before.before.before.before adst0 in
-    let f1 = e1 c.before.before.before.before.before ∙ same c.before.before.before.before.before adst1 in
-    let f2 = e2 c.before.before.before.before.before ∙ same c.before.before.before.before.before adst2 in
-    let f3 = e3 c.before.before.before.before.before ∙ same c.before.before.before.before.before adst3 in
-    four_told c.args.t.now c.requires (of c.before.before.before.before.before adst0) (of c.before.before.before.before.before adst1) (of c.before.before.before.before.before adst2) (of c.before.before.before.before.before adst3) (rw (f0, f1) at c.put.ensures.0) (ap not c.if-not-put.false)
-    (rw (f0, f1) at (c.put.ensures.1 (c.if-not-put.false))) (rw (f2, f3) at c.put-2.ensures.0, λ k. rw (f2, f3) at (c.put-2.ensures.1 k))
+    let f0 = e0 c.before.before.before.before.before.before ∙ same c.before.before.before.before.before.before adst0 in
+    let f1 = e1 c.before.before.before.before.before.before ∙ same c.before.before.before.before.before.before adst1 in
+    let f2 = e2 c.before.before.before.before.before.before ∙ same c.before.before.before.before.before.before adst2 in
+    let f3 = e3 c.before.before.before.before.before.before ∙ same c.before.before.before.before.before.before adst3 in
+    four_told c.args.t.now c.requires (of c.before.before.before.before.before.before adst0) (of c.before.before.before.before.before.before adst1) (of c.before.before.before.before.before.before adst2) (of c.before.before.before.before.before.before adst3) (rw (f0, f1) at c.put.ensures.0) (stayed c.in_ok-put.was)
+    (rw (f0, f1) at (c.put.ensures.1 (ap was_ok c.in_ok-put.was))) (rw (f2, f3) at c.put-2.ensures.0, λ k. rw (f2, f3) at (c.put-2.ensures.1 k))
 
 pub overflow_add-u : goal.overflow_add-u
 overflow_add-u c = room w32 (u c) tt

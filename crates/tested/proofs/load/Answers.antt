@@ -1,6 +1,5 @@
 use mir.Syntax.{w16}
 use mir.Facts.{to_z-of_z}
-use mathlib.Core.Bool.{true}
 use Prim.Native.Nat.{◌<◌, ◌+◌, ◌*◌}
 use native.Mathlib.Omega.{arith}
 use borrow.Author.Rules.{rules}

@@ -1,6 +1,6 @@
 -- `tested::negate` meets its contract.
 use mathlib.Core.Path.{◌≡◌, sym, ap, ◌∙◌}
-use mathlib.Core.Bool.{true, not}
+use mathlib.Core.Bool.{not}
 use lib.IntN.{pos, neg_ℤ}
 use lib.ListN.{get_or}
 use mir.Syntax.{w32}

@@ -1,10 +1,9 @@
-use mathlib.Core.Bool.{not}
 -- `tested::one` meets its contract.
-use mathlib.Core.Path.{ap}
 use native.Mathlib.Omega.{arith}
 use Rattle.blocks.proofs.Inverse.{side_most}
 use Rattle.tested.specs.Line.{pass_of}
 use Rattle.tested.proofs.Done.{loaded_long, loaded_short, one_no, one_yes}
+use Rattle.tested.proofs.Answers.{left, gone, stayed}
 use Rattle.tested.proofs.one.Goals as goal
 
 pub load-requires : goal.load-requires
@@ -21,9 +20,9 @@ line-requires c =
       loaded_short c.args.at c.args.step c.args.n e c.args.z.now c.load.ensures.made m c.load.ensures.told,
     )
 
-pub returns-then-not-line : goal.returns-then-not-line
-returns-then-not-line c =
-    one_no c.args.at c.args.step c.args.n c.side-n0.ensures.0 c.args.z.now c.load.ensures.made (pass_of c.args.kind) c.line.ensures (ap not c.if-not-line.true)
+pub returns-in_err-line : goal.returns-in_err-line
+returns-in_err-line c =
+    rw (gone c.from_residual.result c.from_residual.ensures.0) (one_no c.args.at c.args.step c.args.n c.side-n0.ensures.0 c.args.z.now c.load.ensures.made (pass_of c.args.kind) c.line.ensures (left c.in_err-line.was))
 
 pub store-requires : goal.store-requires
 store-requires c =
@@ -31,4 +30,4 @@ store-requires c =
 
 pub returns : goal.returns
 returns c =
-    one_yes c.args.at c.args.step c.args.n c.side-n0.ensures.0 c.args.z.now c.load.ensures.made (pass_of c.args.kind) c.line.ensures (ap not c.if-not-line.false) c.store.ensures
+    one_yes c.args.at c.args.step c.args.n c.side-n0.ensures.0 c.args.z.now c.load.ensures.made (pass_of c.args.kind) c.line.ensures (stayed c.in_ok-line.was) c.store.ensures

@@ -6,11 +6,11 @@ use Rattle.dct.specs.Dct.{steps2, steps3, steps4, steps5, steps6, steps7, tail_a
 use Rattle.adst.specs.Adst.{on_t, adst8_steps, adst16_steps, adst_steps}
 use Rattle.wht.specs.Wht.{wht_row}
 use Rattle.tested.specs.Line.{steps_of}
-use Rattle.tested.specs.Inner.{angle_at, among, known, chosen, step_of, allowed, ready, given, readies, first_of}
+use Rattle.tested.specs.Inner.{among, known, step_of, ready, given, readies}
 use Rattle.tested.proofs.table.Goals as goal
 
 pub returns : goal.returns
-unfolding given readies step_of chosen ready allowed known among angle_at first_of Brev steps_of steps2 steps3 steps4 steps5 steps6 steps7 tail_at tail dct_steps dct_row each when on_t adst8_steps adst16_steps adst_steps wht_row
+unfolding given readies step_of ready known among Brev steps_of steps2 steps3 steps4 steps5 steps6 steps7 tail_at tail dct_steps dct_row each when on_t adst8_steps adst16_steps adst_steps wht_row
 returns c =
     record {
       dct4 = record { steps = refl; fine = tt };

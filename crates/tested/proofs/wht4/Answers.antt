@@ -1,8 +1,8 @@
 -- `tested::wht4` meets its contract.
 use mathlib.Core.Path.{◌≡◌, ap, ◌∙◌}
-use mathlib.Core.Bool.{true, false, not}
 use Prim.Native.Nat.{ℕ, ◌^◌}
 use lib.Dec.{lit<}
+use Rattle.std.specs.Prelude.{is_ok as was_ok}
 use lib.IntN.{ℤ, pos}
 use lib.ListN.{get_or}
 use lib.Signed.{shr_z}
@@ -13,6 +13,7 @@ use Rattle.narrow.specs.Inner.{fits}
 use Rattle.narrow.proofs.Locals.{read}
 use Rattle.tested.proofs.Four as four
 use Rattle.tested.proofs.Four.{four_stops, four_told, same_four, wht0, wht1, wht2, wht3}
+use Rattle.tested.proofs.Answers.{left, gone, stayed}
 use Rattle.tested.proofs.wht4.Goals as goal
 use Rattle.tested.proofs.wht4.Goals.{After-wide-4}
 
@@ -44,20 +45,20 @@ module _ (c : After-wide-4) where
   same : (f : ℤ → ℤ → ℤ → ℤ → ℤ) → at f ≡ of f
   same f = let down : ℤ → ℤ = λ z. shr_z z (2 ^ k) in same_four f (ap down v0) (ap down v1) (ap down v2) (ap down v3)
 
-pub returns-then-not-put : goal.returns-then-not-put
+pub returns-in_err-put : goal.returns-in_err-put
 unfolding fits step wht4
-returns-then-not-put c =
-    four_stops c.args.t.now c.requires.1 (of c.before.before.before wht0) (of c.before.before.before wht1) (of c.before.before.before wht2) (of c.before.before.before wht3) (rw ((is_rd w32 (lit< tt) (four.a_is (k c.before.before.before) c.wide.ensures.1 c.wide-2.ensures.1 c.wide-3.ensures.1 c.wide-4.ensures.1)).eq ∙ same c.before.before.before wht0, (is_rd w32 (lit< tt) (four.b_is (k c.before.before.before) c.wide.ensures.1 c.wide-2.ensures.1 c.wide-3.ensures.1 c.wide-4.ensures.1)).eq ∙ same c.before.before.before wht1) at c.put.ensures.0) (ap not c.if-not-put.true)
+returns-in_err-put c =
+    rw (gone c.from_residual.result c.from_residual.ensures.0) (four_stops c.args.t.now c.requires.1 (of c.before.before.before.before.before wht0) (of c.before.before.before.before.before wht1) (of c.before.before.before.before.before wht2) (of c.before.before.before.before.before wht3) (rw ((is_rd w32 (lit< tt) (four.a_is (k c.before.before.before.before.before) c.wide.ensures.1 c.wide-2.ensures.1 c.wide-3.ensures.1 c.wide-4.ensures.1)).eq ∙ same c.before.before.before.before.before wht0, (is_rd w32 (lit< tt) (four.b_is (k c.before.before.before.before.before) c.wide.ensures.1 c.wide-2.ensures.1 c.wide-3.ensures.1 c.wide-4.ensures.1)).eq ∙ same c.before.before.before.before.before wht1) at c.put.ensures.0) (left c.in_err-put.was))
 
 pub returns : goal.returns
 unfolding fits step wht4
 returns c =
-    let e0 = (is_rd w32 (lit< tt) (four.a_is (k c.before.before.before.before.before) c.wide.ensures.1 c.wide-2.ensures.1 c.wide-3.ensures.1 c.wide-4.ensures.1)).eq ∙ same c.before.before.before.before.before wht0 in
-    let e1 = (is_rd w32 (lit< tt) (four.b_is (k c.before.before.before.before.before) c.wide.ensures.1 c.wide-2.ensures.1 c.wide-3.ensures.1 c.wide-4.ensures.1)).eq ∙ same c.before.before.before.before.before wht1 in
-    let e2 = (is_rd w32 (lit< tt) (four.c_is (k c.before.before.before.before.before) c.wide.ensures.1 c.wide-2.ensures.1 c.wide-3.ensures.1 c.wide-4.ensures.1)).eq ∙ same c.before.before.before.before.before wht2 in
-    let e3 = (is_rd w32 (lit< tt) (four.d_is (k c.before.before.before.before.before) c.wide.ensures.1 c.wide-2.ensures.1 c.wide-3.ensures.1 c.wide-4.ensures.1)).eq ∙ same c.before.before.before.before.before wht3 in
-    four_told c.args.t.now c.requires.1 (of c.before.before.before.before.before wht0) (of c.before.before.before.before.before wht1) (of c.before.before.before.before.before wht2) (of c.before.before.before.before.before wht3) (rw (e0, e1) at c.put.ensures.0) (ap not c.if-not-put.false)
-    (rw (e0, e1) at (c.put.ensures.1 (c.if-not-put.false))) (rw (e3, e2) at c.put-2.ensures.0, λ k. rw (e3, e2) at (c.put-2.ensures.1 k))
+    let e0 = (is_rd w32 (lit< tt) (four.a_is (k c.before.before.before.before.before.before) c.wide.ensures.1 c.wide-2.ensures.1 c.wide-3.ensures.1 c.wide-4.ensures.1)).eq ∙ same c.before.before.before.before.before.before wht0 in
+    let e1 = (is_rd w32 (lit< tt) (four.b_is (k c.before.before.before.before.before.before) c.wide.ensures.1 c.wide-2.ensures.1 c.wide-3.ensures.1 c.wide-4.ensures.1)).eq ∙ same c.before.before.before.before.before.before wht1 in
+    let e2 = (is_rd w32 (lit< tt) (four.c_is (k c.before.before.before.before.before.before) c.wide.ensures.1 c.wide-2.ensures.1 c.wide-3.ensures.1 c.wide-4.ensures.1)).eq ∙ same c.before.before.before.before.before.before wht2 in
+    let e3 = (is_rd w32 (lit< tt) (four.d_is (k c.before.before.before.before.before.before) c.wide.ensures.1 c.wide-2.ensures.1 c.wide-3.ensures.1 c.wide-4.ensures.1)).eq ∙ same c.before.before.before.before.before.before wht3 in
+    four_told c.args.t.now c.requires.1 (of c.before.before.before.before.before.before wht0) (of c.before.before.before.before.before.before wht1) (of c.before.before.before.before.before.before wht2) (of c.before.before.before.before.before.before wht3) (rw (e0, e1) at c.put.ensures.0) (stayed c.in_ok-put.was)
+    (rw (e0, e1) at (c.put.ensures.1 (ap was_ok c.in_ok-put.was))) (rw (e3, e2) at c.put-2.ensures.0, λ k. rw (e3, e2) at (c.put-2.ensures.1 k))
 
 pub overflow_add-a : goal.overflow_add-a
 overflow_add-a c = is_ok w32 (lit< tt) (four.p_is (k c) c.wide.ensures.1 c.wide-2.ensures.1 c.wide-3.ensures.1 c.wide-4.ensures.1)
