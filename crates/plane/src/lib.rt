@@ -29,23 +29,7 @@ pub fn place(plane: Plane, row: usize, column: usize) -> usize
 pub fn cut(count: usize, start: usize, n: usize) -> usize
     ensures { result ≡ cut count start n }
 {
-    if count <= start {
-        return 0;
-    }
-    if n < count - start {
-        return n;
-    }
-    count - start
-}
-
-// The positive part: by itself, so that the compiler makes no branch of it.
-fn not_below_0(v: i64) -> i64
-    ensures { result ≡ pos (P v) }
-{
-    if v < 0 {
-        return 0;
-    }
-    v
+    n.min(count.saturating_sub(start))
 }
 
 // A sample and its residual, clipped to 0 .. top.
@@ -53,11 +37,8 @@ pub fn clip(sample: u16, residual: i64, top: u16) -> u16
     requires { Within (2 ^ 62) residual }
     ensures { result ≡ clip top (pos sample +ℤ residual) }
 {
-    let v = not_below_0((sample as i64) + residual);
-    if (top as i64) < v {
-        return top;
-    }
-    v as u16
+    let v = (i64::from(sample) + residual).max(0);
+    v.min(i64::from(top)) as u16
 }
 
 // The residuals from `from` on, into `cols` samples from `at` on.

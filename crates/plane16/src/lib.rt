@@ -11,62 +11,28 @@ ghost use Rattle.narrow.specs.Tile.{place};
 
 use plane::{Plane, cut};
 
-// s + p, at most 65,535.
-fn up(s: u16, p: u16) -> u16
-    ensures { result ≡ min 65535 (s + p) }
-{
-    if 65535 - p < s {
-        return 65535;
-    }
-    s + p
-}
-
-// s - q, at least 0.
-fn down(s: u16, q: u16) -> u16
-    ensures { result ≡ s - q }
-{
-    if s < q {
-        return 0;
-    }
-    s - q
-}
-
-// The smaller of the two.
-fn least(a: u16, b: u16) -> u16
-    ensures { result ≡ min a b }
-{
-    if a < b {
-        return a;
-    }
-    b
-}
-
 // The positive part.
 fn positive(r: i16) -> u16
     ensures { result ≡ P r }
 {
-    if r < 0 {
-        return 0;
-    }
-    r as u16
+    r.max(0) as u16
 }
 
 // The negative part, of the least number too.
 fn negative(r: i16) -> u16
     ensures { result ≡ N r }
 {
-    let w = r as i32;
-    if w < 0 {
-        return (-w) as u16;
-    }
-    0
+    r.min(0).unsigned_abs()
 }
 
-// A sample and its residual, clipped to 0 .. top: no number leaves 16 bits.
+// A sample and its residual, clipped to 0 .. top: no number leaves 16 bits. By the two parts: `saturating_add_signed` takes half as long again.
 fn clip(sample: u16, r: i16, top: u16) -> u16
     ensures { result ≡ clip top (pos sample +ℤ r) }
 {
-    least(down(up(sample, positive(r)), negative(r)), top)
+    sample
+        .saturating_add(positive(r))
+        .saturating_sub(negative(r))
+        .min(top)
 }
 
 // Eight samples from `at` on with their residuals.
