@@ -7,3 +7,4 @@ pub mod Reach
 pub mod Kept2
 pub mod Safe
 pub mod Tile
+pub mod Pairs

@@ -3,6 +3,7 @@ use mathlib.Core.Path.{◌≡◌, refl, sym, subst}
 use mathlib.Core.Bool.{Bool, true, false, ◌&&◌}
 use Prim.Native.Nat.{ℕ, ◌^◌, ◌≤◌, ◌<◌}
 use native.Mathlib.Omega.{arith}
+use Rattle.std.proofs.Common.{Result, Ok, Err, OkIff, is_ok}
 use lib.Dec.{leb}
 use lib.IntN.{ℤ}
 use mir.Syntax.{Width, w16}
@@ -28,6 +29,10 @@ pub and_no : (a b : Bool) → b ≡ false → a && b ≡ false
 and_no true b e = e
 and_no false b e = refl
 
+never : (b : Bool) → (b ≡ true → ⊥) → false ≡ b
+never true h = absurd (h refl)
+never false h = refl
+
 -- the test and the range
 pub short_in : (z : ℤ) → P z ≤ 32767 → N z ≤ 32768 → short z ≡ true
 unfolding short
@@ -51,6 +56,11 @@ short_fits {z} e =
 
 pub fits_short : {z : ℤ} → SFits w16 z → short z ≡ true
 fits_short {z} f = short_in z (omega (arith, sfits_P f)) (sfits_N f)
+
+-- a conversion to the machine's width is the test
+pub ok_short : {E : Type 0} (r : Result ℤ E) (z v : ℤ) → OkIff r (SFits w16 z) v → is_ok r ≡ short z
+ok_short (Ok x) z v p = sym (fits_short p.0)
+ok_short (Err _) z v h = never (short z) (λ e. h (short_fits e))
 
 pub fits_within : {z : ℤ} → SFits w16 z → Within 32768 z
 fits_within {z} f = record { hi = omega (arith, sfits_P f); lo = sfits_N f }

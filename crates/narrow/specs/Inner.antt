@@ -1,5 +1,5 @@
 -- What only the contracts of inner functions read: the test of a single step, which needs neither a length nor a start, and what an unchecked step asks.
-use Rattle.std.specs.Prelude.{◌≡◌, Bool, true, false, ◌&&◌, List, [], ◌∷◌, ℕ, ◌≤◌, ◌<◌, ℤ, pos, neg_ℤ, ◌+ℤ◌, ◌-ℤ◌, ◌*ℤ◌, get_or}
+use Rattle.std.specs.Prelude.{◌≡◌, Bool, true, false, ◌&&◌, List, [], ◌∷◌, ℕ, ◌≤◌, ◌<◌, ℤ, pos, neg_ℤ, ◌+ℤ◌, ◌-ℤ◌, ◌*ℤ◌, get_or, set}
 use Rattle.whole.specs.Round.{Round2}
 use Rattle.whole.specs.Within.{Within}
 use Rattle.primitives.specs.Rotations.{turn_x, turn_y, set_pair}
@@ -26,6 +26,11 @@ spin_fits t a b cos sin = short_pair (Round2 (spin_x t a b cos sin) 14) (Round2 
 -- B, by the cosine and the sine of its angle
 unfoldable pub spin : List ℤ → ℕ → ℕ → ℤ → ℤ → Bool → List ℤ
 spin t a b cos sin flip = set_pair t a b (Round2 (spin_x t a b cos sin) 14) (Round2 (spin_y t a b cos sin) 14) flip
+
+-- x to place a and y to place b, numbers of any type; flip exchanges the two. At ℤ it is set_pair
+unfoldable pub set_both : {A : Type 0} → List A → ℕ → ℕ → A → A → Bool → List A
+set_both t a b x y false = set (set t a x) b y
+set_both t a b x y true = set (set t a y) b x
 
 -- what a rotation asks: its places exist, and the two are no greater than 1.0 of 14 bits
 abbrev pub Turns : ℕ → ℕ → ℤ → ℤ → Type 0

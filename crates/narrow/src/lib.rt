@@ -10,13 +10,13 @@ ghost use Rattle.steps.specs.Step.{Hd, Neg, step};
 ghost use Rattle.steps.specs.Step2.{SH, step2};
 ghost use Rattle.adst.specs.Inner.{arrays};
 ghost use Rattle.narrow.specs.Kept.{short};
-ghost use Rattle.narrow.specs.Inner.{short_pair, spin_x, spin_y, spin_fits, spin, Turns, Rotated, Fine16, Fine216};
+ghost use Rattle.narrow.specs.Inner.{short_pair, spin_x, spin_y, spin_fits, spin, Turns, Rotated, Fine16, Fine216, set_both};
 
 // A number of T, at 32 bits.
 pub fn wide(x: i16) -> i32
     ensures { (result ≡ x) × Within 32768 result }
 {
-    x as i32
+    i32::from(x)
 }
 
 // Both values of a rotation.
@@ -52,29 +52,29 @@ pub fn round14(x: i32) -> i32
 pub fn is_short(x: i32) -> bool
     ensures { result ≡ short x }
 {
-    if x > 32767 {
-        return false;
-    }
-    if x < -32768 {
-        return false;
-    }
-    true
+    i16::try_from(x).is_ok()
 }
 
 // x to place a and y to place b; flip exchanges the two.
+fn put<E: Copy, const N: usize>(t: &mut [E; N], a: usize, b: usize, x: E, y: E, flip: bool)
+    requires { (a < N) × (b < N) }
+    ensures { t.new ≡ set_both t.old a b x y flip }
+{
+    if flip {
+        t[a] = y;
+        t[b] = x;
+    } else {
+        t[a] = x;
+        t[b] = y;
+    }
+}
+
+// The same of two numbers of 16 bits.
 pub fn put16(t: &mut [i16; 32], a: usize, b: usize, x: i32, y: i32, flip: bool)
     requires { (a < 32) × (b < 32) × (short_pair x y ≡ true) }
     ensures { t.new ≡ set_pair t.old a b x y flip }
 {
-    let m = x as i16;
-    let n = y as i16;
-    if flip {
-        t[a] = n;
-        t[b] = m;
-    } else {
-        t[a] = m;
-        t[b] = n;
-    }
+    put(t, a, b, x as i16, y as i16, flip);
 }
 
 // B(a, b, angle, flip) on t, for the angle of this cosine and sine, where both results are of 16 bits.
@@ -126,15 +126,7 @@ pub fn fsb16(t: &[i16; 32], s: &mut [i32; 16], a: usize, b: usize, cos: i32, sin
     ensures told { Within 32768 (get_or t.now a (pos 0)) × Within 32768 (get_or t.now b (pos 0)) }
 {
     let r = turn(t, a, b, cos, sin);
-    let x = r.x;
-    let y = r.y;
-    if flip {
-        s[a] = y;
-        s[b] = x;
-    } else {
-        s[a] = x;
-        s[b] = y;
-    }
+    put(s, a, b, r.x, r.y, flip);
 }
 
 // SH(a, b): sum and difference of s, rounded, into t, where both are of 16 bits.

@@ -1,14 +1,9 @@
 -- What only the contracts of inner functions read: the pieces of the ADST that the code calls one after the other.
-use Rattle.std.specs.Prelude.{Bool, true, false, List, [], ◌∷◌, ℕ}
+use Rattle.std.specs.Prelude.{List, [], ◌∷◌}
 use Rattle.whole.specs.Steps.{each, ◌⨾◌}
 use Rattle.steps.specs.Step.{Step, Move}
 use Rattle.steps.specs.Step2.{Step2}
 use Rattle.adst.specs.Adst.{adst_in, adst_out, on_t, eight2, eight3, eight4, eight5, eight6, eight7, eight9, sixteen2, sixteen3, sixteen4, sixteen5, sixteen6, sixteen7, sixteen8, sixteen9, sixteen10, sixteen12}
-
--- the permutation out of the ADST, or the one into it
-abbrev pub order : Bool → ℕ → ℕ → ℕ
-order true = adst_out
-order false = adst_in
 
 -- steps 2 and 3 of ADST8
 unfoldable pub first8 : List Step2

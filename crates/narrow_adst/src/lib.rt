@@ -2,51 +2,64 @@
 // Numbers in S are of 32 bits, and do not count.
 #![tactic(auto)]
 
-ghost use Rattle.std.specs.Prelude.{◌≡◌, ◌*◌, ◌^◌, ◌≤◌, ◌<◌};
+ghost use Rattle.std.specs.Prelude.{◌≡◌, ℕ, ◌*◌, ◌^◌, ◌≤◌, ◌<◌};
 ghost use Rattle.whole.specs.Steps.{run};
 ghost use Rattle.whole.specs.Inner.{Ok};
 ghost use Rattle.steps.specs.Step.{Move, step};
 ghost use Rattle.steps.specs.Step2.{step2};
-ghost use Rattle.adst.specs.Adst.{adst_in};
+ghost use Rattle.adst.specs.Adst.{adst_in, adst_out};
 ghost use Rattle.adst.specs.Inner.{arrays};
 ghost use Rattle.narrow.specs.Inner.{Fine16, Fine216};
-ghost use Rattle.narrow_adst.specs.Inner.{order, first8, next8, last8, turns16, first16, next16, more16, last16};
+ghost use Rattle.narrow_adst.specs.Inner.{first8, next8, last8, turns16, first16, next16, more16, last16};
 
-// Where the permutation into the ADST takes t[k] from.
-fn input_place(n: u32, k: usize) -> usize
-    requires { (3 ≤ n) × (n ≤ 4) × (k < 2 ^ n) }
-    ensures { (result ≡ adst_in n k) × (result < 16) }
-{
-    if k % 2 != 0 {
-        return k - 1;
-    }
-    if n == 4 {
-        return 15 - k;
-    }
-    7 - k
+// A permutation of a line, as a type: so each has its own code, in which every place is known.
+pub trait Order {
+    ghost source: { ℕ → ℕ → ℕ };
+
+    // Where it takes t[k] from.
+    fn place(n: u32, k: usize) -> usize
+        requires { (3 ≤ n) × (n ≤ 4) × (k < 2 ^ n) }
+        ensures { (result ≡ source n k) × (result < 16) };
 }
 
-// Where either permutation takes it from: the one into the ADST, or the one out of it.
-fn place(n: u32, k: usize, out: bool) -> usize
-    requires { (3 ≤ n) × (n ≤ 4) × (k < 2 ^ n) }
-    ensures { (result ≡ order «out» n k) × (result < 16) }
-{
-    if out {
-        return adst::output_place(n, k);
+// The permutation into the ADST.
+pub struct Input;
+
+impl Order for Input {
+    ghost source = { adst_in };
+
+    fn place(n: u32, k: usize) -> usize {
+        if k % 2 != 0 {
+            return k - 1;
+        }
+        if n == 4 {
+            return 15 - k;
+        }
+        7 - k
     }
-    input_place(n, k)
+}
+
+// The permutation out of it.
+pub struct Output;
+
+impl Order for Output {
+    ghost source = { adst_out };
+
+    fn place(n: u32, k: usize) -> usize {
+        adst::output_place(n, k)
+    }
 }
 
 // Either permutation of 2^n = h k numbers. Where n, h and k are literals, two loops of few turns unroll and every index folds.
-pub fn permute(t: &mut [i16; 32], n: u32, h: usize, k: usize, out: bool)
+pub fn permute<O: Order>(t: &mut [i16; 32], n: u32, h: usize, k: usize)
     requires { (3 ≤ n) × (n ≤ 4) × (h * k ≡ 2 ^ n) }
-    ensures { t.new ≡ step (Move (2 ^ n) (order «out» n)) t.old }
+    ensures { t.new ≡ step (Move (2 ^ n) (O.source n)) t.old }
 {
     let copy_t = *t;
     for a in 0..h {
         for b in 0..k {
             let i = k * a + b;
-            t[i] = copy_t[place(n, i, out)];
+            t[i] = copy_t[O::place(n, i)];
         }
     }
 }
@@ -86,7 +99,7 @@ pub fn adst8_last(t: &mut [i16; 32])
     requires { Ok step Fine16 last8 t.old }
     ensures { t.new ≡ run step last8 t.old }
 {
-    permute(t, 3, 2, 4, true);
+    permute::<Output>(t, 3, 2, 4);
     narrow::fneg16(t, 1);
     narrow::fneg16(t, 3);
     narrow::fneg16(t, 5);
@@ -170,7 +183,7 @@ pub fn adst16_last(t: &mut [i16; 32])
     narrow::fb16(t, 6, 7, 11585, -11585, false);
     narrow::fb16(t, 10, 11, 11585, -11585, false);
     narrow::fb16(t, 14, 15, -11585, 11585, false);
-    permute(t, 4, 4, 4, true);
+    permute::<Output>(t, 4, 4, 4);
     narrow::fneg16(t, 1);
     narrow::fneg16(t, 3);
     narrow::fneg16(t, 13);

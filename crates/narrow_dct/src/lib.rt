@@ -22,9 +22,7 @@ pub fn permute(t: &mut [i16; 32], n: u32, h: usize, k: usize)
             let i = k * a + b;
             let j = primitives::brev(n, i);
             if i < j {
-                let x = t[i];
-                t[i] = t[j];
-                t[j] = x;
+                t.swap(i, j);
             }
         }
     }

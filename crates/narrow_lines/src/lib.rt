@@ -3,14 +3,14 @@
 // loads eight numbers apart, for which there are instructions on both processors.
 #![tactic(auto)]
 
-ghost use Rattle.std.specs.Prelude.{◌≡◌, true, false, ℕ, ◌+◌, ◌*◌, ◌≤◌, ◌<◌, pos, nat_abs, length, get_or, set, replicate};
+ghost use Rattle.std.specs.Prelude.{◌≡◌, Bool, true, false, ℕ, ◌+◌, ◌*◌, ◌≤◌, ◌<◌, pos, nat_abs, length, get_or, set, replicate};
 ghost use Rattle.whole.specs.Lists.{tabulate, fill};
 ghost use Rattle.whole.specs.Inner.{times};
 ghost use Rattle.whole.specs.Round.{Round2};
 ghost use Rattle.answers.specs.Sizes.{side, area};
 ghost use Rattle.blocks.specs.Block.{row, column, rows, columns};
 ghost use Rattle.blocks.specs.Inner.{set_line};
-ghost use Rattle.blocks.specs.Inverse.{Dct, Adst, apply, lossy, rounding};
+ghost use Rattle.blocks.specs.Inverse.{Pass, Dct, Adst, apply, lossy, rounding};
 ghost use Rattle.narrow.specs.Tile.{place, raster};
 ghost use Rattle.weights.specs.Inner.{total, Keeps};
 ghost use Rattle.narrow_lines.specs.Inner.{start, gap, spot, line_of, Whole, Holds, strip, first, StripKeeps, Dead};
@@ -30,275 +30,245 @@ fn place(n0: usize, i: usize, j: usize) -> usize
     8 * n0 * (j / 8) + 8 * i + j % 8
 }
 
-// Where number k of line i stands: of a column, or of a row.
-fn spot(n0: usize, i: usize, k: usize, down: bool) -> usize
-    requires { (n0 ≤ 32) × (i < n0) × (k < n0) }
-    ensures { result ≡ spot «down» n0 i k }
-{
-    if down {
-        return place(n0, k, i);
-    }
-    place(n0, i, k)
+// Which way the lines of a block run. A type in place of a flag: each way gets its own code, in which every place is known.
+trait Direction {
+    ghost goes_down: { Bool };
+
+    // Where number k of line i stands.
+    fn spot(n0: usize, i: usize, k: usize) -> usize
+        requires { (n0 ≤ 32) × (i < n0) × (k < n0) }
+        ensures { result ≡ spot goes_down n0 i k };
 }
 
-// Line i into the first places of t. Where n0 and `down` are literals, two loops of few turns unroll and every index folds; one of 32 turns does so
+struct ByRow;
+
+impl Direction for ByRow {
+    ghost goes_down = { false };
+
+    fn spot(n0: usize, i: usize, k: usize) -> usize {
+        place(n0, i, k)
+    }
+}
+
+struct ByColumn;
+
+impl Direction for ByColumn {
+    ghost goes_down = { true };
+
+    fn spot(n0: usize, i: usize, k: usize) -> usize {
+        place(n0, k, i)
+    }
+}
+
+// Line i into the first places of t. Where n0 is a literal, two loops of few turns unroll and every index folds; one of 32 turns does so
 // on one of the two processors only.
-fn load(t: &mut [i16; 32], z: &[i16; 1024], i: usize, n0: usize, down: bool)
+fn load<D: Direction>(t: &mut [i16; 32], z: &[i16; 1024], i: usize, n0: usize)
     requires { Whole n0 × (i < n0) × (t.old ≡ replicate 32 (pos 0)) }
-    ensures { t.new ≡ line_of «down» n0 i (raster n0 z.now) }
+    ensures { t.new ≡ line_of D.goes_down n0 i (raster n0 z.now) }
 {
     for a in 0..n0 / 8 {
         for b in 0..8usize {
             let k = 8 * a + b;
-            t[k] = z[spot(n0, i, k, down)];
+            t[k] = z[D::spot(n0, i, k)];
         }
     }
 }
 
 // And back.
-fn store(z: &mut [i16; 1024], t: &[i16; 32], i: usize, n0: usize, down: bool)
+fn store<D: Direction>(z: &mut [i16; 1024], t: &[i16; 32], i: usize, n0: usize)
     requires { Whole n0 × (i < n0) × (length z.old ≡ 1024) }
-    ensures { Holds n0 (set_line (λ z. z) (start «down» n0 i) (gap «down» n0) n0 t.now (raster n0 z.entry.now)) z.exit.now }
+    ensures { Holds n0 (set_line (λ z. z) (start D.goes_down n0 i) (gap D.goes_down n0) n0 t.now (raster n0 z.entry.now)) z.exit.now }
 {
     for a in 0..n0 / 8 {
         for b in 0..8usize {
             let k = 8 * a + b;
-            z[spot(n0, i, k, down)] = t[k];
+            z[D::spot(n0, i, k)] = t[k];
         }
     }
 }
 
-// The eight rows of strip q through each transform. The line is 8 q + j here and not in the caller: so the compiler sees the strip.
-fn dct8_rows(z: &mut [i16; 1024], q: usize)
-    requires { (8 * q + 8 ≤ 8) × (length z.old ≡ 1024) × StripKeeps false Dct 3 (8 * q) (raster 8 z.old) }
-    ensures { Holds 8 (strip false Dct 3 (8 * q) 8 (raster 8 z.old)) z.new }
-{
-    for j in 0..8usize {
-        let mut t = [0i16; 32];
-        load(&mut t, z, 8 * q + j, 8, false);
-        narrow_dct::permute(&mut t, 3, 2, 4);
-        narrow_dct::level2(&mut t);
-        narrow_dct::level3(&mut t);
-        store(z, &t, 8 * q + j, 8, false);
+// A transform of a line of SIDE numbers.
+trait Transform {
+    const SIDE: usize;
+
+    ghost SIDE: { ℕ };
+
+    ghost pass: { Pass };
+
+    ghost n: { ℕ };
+
+    fn run<D: Direction>(t: &mut [i16; 32])
+        requires { Keeps pass n t.old }
+        ensures { t.new ≡ apply pass n t.old };
+
+    ghost size: { (SIDE ≡ side n) × Whole (side n) };
+}
+
+struct Dct8;
+
+impl Transform for Dct8 {
+    const SIDE: usize = 8;
+
+    ghost SIDE = { 8 };
+
+    ghost pass = { Dct };
+
+    ghost n = { 3 };
+
+    ghost use Rattle.std.proofs.Common.{rules};
+
+    ghost size = { Prim.search rules };
+
+    fn run<D: Direction>(t: &mut [i16; 32]) {
+        narrow_dct::permute(t, 3, 2, 4);
+        narrow_dct::level2(t);
+        narrow_dct::level3(t);
     }
 }
 
-fn dct16_rows(z: &mut [i16; 1024], q: usize)
-    requires { (8 * q + 8 ≤ 16) × (length z.old ≡ 1024) × StripKeeps false Dct 4 (8 * q) (raster 16 z.old) }
-    ensures { Holds 16 (strip false Dct 4 (8 * q) 8 (raster 16 z.old)) z.new }
-{
-    for j in 0..8usize {
-        let mut t = [0i16; 32];
-        load(&mut t, z, 8 * q + j, 16, false);
-        narrow_dct::permute(&mut t, 4, 4, 4);
-        narrow_dct::level2(&mut t);
-        narrow_dct::level3(&mut t);
-        narrow_dct::level4_first(&mut t);
-        narrow_dct::level4_last(&mut t);
-        store(z, &t, 8 * q + j, 16, false);
+struct Dct16;
+
+impl Transform for Dct16 {
+    const SIDE: usize = 16;
+
+    ghost SIDE = { 16 };
+
+    ghost pass = { Dct };
+
+    ghost n = { 4 };
+
+    ghost use Rattle.std.proofs.Common.{rules};
+
+    ghost size = { Prim.search rules };
+
+    fn run<D: Direction>(t: &mut [i16; 32]) {
+        narrow_dct::permute(t, 4, 4, 4);
+        narrow_dct::level2(t);
+        narrow_dct::level3(t);
+        narrow_dct::level4_first(t);
+        narrow_dct::level4_last(t);
     }
 }
 
-fn dct32_rows(z: &mut [i16; 1024], q: usize)
-    requires { (8 * q + 8 ≤ 32) × (length z.old ≡ 1024) × StripKeeps false Dct 5 (8 * q) (raster 32 z.old) }
-    ensures { Holds 32 (strip false Dct 5 (8 * q) 8 (raster 32 z.old)) z.new }
-{
-    for j in 0..8usize {
-        let mut t = [0i16; 32];
-        load(&mut t, z, 8 * q + j, 32, false);
-        narrow_dct::permute(&mut t, 5, 4, 8);
-        narrow_dct::level2(&mut t);
-        narrow_dct::level3(&mut t);
-        narrow_dct::level4_first(&mut t);
-        narrow_dct::level4_last(&mut t);
-        narrow_dct::level5_turns(&mut t);
-        narrow_dct::level5_first(&mut t);
-        narrow_dct::level5_next(&mut t);
-        narrow_dct::level5_last(&mut t);
-        narrow_dct::level5_sums(&mut t);
-        store(z, &t, 8 * q + j, 32, false);
+struct Dct32;
+
+impl Transform for Dct32 {
+    const SIDE: usize = 32;
+
+    ghost SIDE = { 32 };
+
+    ghost pass = { Dct };
+
+    ghost n = { 5 };
+
+    ghost use Rattle.std.proofs.Common.{rules};
+
+    ghost size = { Prim.search rules };
+
+    fn run<D: Direction>(t: &mut [i16; 32]) {
+        narrow_dct::permute(t, 5, 4, 8);
+        narrow_dct::level2(t);
+        narrow_dct::level3(t);
+        narrow_dct::level4_first(t);
+        narrow_dct::level4_last(t);
+        narrow_dct::level5_turns(t);
+        narrow_dct::level5_first(t);
+        narrow_dct::level5_next(t);
+        narrow_dct::level5_last(t);
+        narrow_dct::level5_sums(t);
     }
 }
 
-fn adst8_rows(z: &mut [i16; 1024], q: usize)
-    requires { (8 * q + 8 ≤ 8) × (length z.old ≡ 1024) × StripKeeps false Adst 3 (8 * q) (raster 8 z.old) }
-    ensures { Holds 8 (strip false Adst 3 (8 * q) 8 (raster 8 z.old)) z.new }
-{
-    for j in 0..8usize {
-        let mut t = [0i16; 32];
+struct Adst8;
+
+impl Transform for Adst8 {
+    const SIDE: usize = 8;
+
+    ghost SIDE = { 8 };
+
+    ghost pass = { Adst };
+
+    ghost n = { 3 };
+
+    ghost use Rattle.std.proofs.Common.{rules};
+
+    ghost size = { Prim.search rules };
+
+    fn run<D: Direction>(t: &mut [i16; 32]) {
         let mut s = [0i32; 16];
-        load(&mut t, z, 8 * q + j, 8, false);
-        narrow_adst::permute(&mut t, 3, 2, 4, false);
-        narrow_adst::adst8_first(&mut t, &mut s);
-        narrow_adst::adst8_next(&mut t, &mut s);
-        narrow_adst::adst8_last(&mut t);
-        store(z, &t, 8 * q + j, 8, false);
+        narrow_adst::permute::<narrow_adst::Input>(t, 3, 2, 4);
+        narrow_adst::adst8_first(t, &mut s);
+        narrow_adst::adst8_next(t, &mut s);
+        narrow_adst::adst8_last(t);
     }
 }
 
-fn adst16_rows(z: &mut [i16; 1024], q: usize)
-    requires { (8 * q + 8 ≤ 16) × (length z.old ≡ 1024) × StripKeeps false Adst 4 (8 * q) (raster 16 z.old) }
-    ensures { Holds 16 (strip false Adst 4 (8 * q) 8 (raster 16 z.old)) z.new }
-{
-    for j in 0..8usize {
-        let mut t = [0i16; 32];
+struct Adst16;
+
+impl Transform for Adst16 {
+    const SIDE: usize = 16;
+
+    ghost SIDE = { 16 };
+
+    ghost pass = { Adst };
+
+    ghost n = { 4 };
+
+    ghost use Rattle.std.proofs.Common.{rules};
+
+    ghost size = { Prim.search rules };
+
+    fn run<D: Direction>(t: &mut [i16; 32]) {
         let mut s = [0i32; 16];
-        load(&mut t, z, 8 * q + j, 16, false);
-        narrow_adst::permute(&mut t, 4, 4, 4, false);
-        narrow_adst::adst16_turns(&t, &mut s);
-        narrow_adst::adst16_first(&mut t, &s);
-        narrow_adst::adst16_next(&mut t, &mut s);
-        narrow_adst::adst16_more(&mut t, &mut s);
-        narrow_adst::adst16_last(&mut t);
-        store(z, &t, 8 * q + j, 16, false);
+        narrow_adst::permute::<narrow_adst::Input>(t, 4, 4, 4);
+        narrow_adst::adst16_turns(t, &mut s);
+        narrow_adst::adst16_first(t, &s);
+        narrow_adst::adst16_next(t, &mut s);
+        narrow_adst::adst16_more(t, &mut s);
+        narrow_adst::adst16_last(t);
     }
 }
 
-// The eight columns of strip q through each transform. The line is 8 q + j here and not in the caller: so the compiler sees the strip.
-fn dct8_columns(z: &mut [i16; 1024], q: usize)
-    requires { (8 * q + 8 ≤ 8) × (length z.old ≡ 1024) × StripKeeps true Dct 3 (8 * q) (raster 8 z.old) }
-    ensures { Holds 8 (strip true Dct 3 (8 * q) 8 (raster 8 z.old)) z.new }
+// The eight lines of strip q through a transform. The line is 8 q + j here and not in the caller: so the compiler sees the strip.
+fn eight<T: Transform, D: Direction>(z: &mut [i16; 1024], q: usize)
+    requires { (8 * q + 8 ≤ side T.n) × (length z.old ≡ 1024) × StripKeeps D.goes_down T.pass T.n (8 * q) (raster (side T.n) z.old) }
+    ensures { Holds (side T.n) (strip D.goes_down T.pass T.n (8 * q) 8 (raster (side T.n) z.old)) z.new }
 {
     for j in 0..8usize {
         let mut t = [0i16; 32];
-        load(&mut t, z, 8 * q + j, 8, true);
-        narrow_dct::permute(&mut t, 3, 2, 4);
-        narrow_dct::level2(&mut t);
-        narrow_dct::level3(&mut t);
-        store(z, &t, 8 * q + j, 8, true);
+        load::<D>(&mut t, z, 8 * q + j, T::SIDE);
+        T::run::<D>(&mut t);
+        store::<D>(z, &t, 8 * q + j, T::SIDE);
     }
 }
 
-fn dct16_columns(z: &mut [i16; 1024], q: usize)
-    requires { (8 * q + 8 ≤ 16) × (length z.old ≡ 1024) × StripKeeps true Dct 4 (8 * q) (raster 16 z.old) }
-    ensures { Holds 16 (strip true Dct 4 (8 * q) 8 (raster 16 z.old)) z.new }
-{
-    for j in 0..8usize {
-        let mut t = [0i16; 32];
-        load(&mut t, z, 8 * q + j, 16, true);
-        narrow_dct::permute(&mut t, 4, 4, 4);
-        narrow_dct::level2(&mut t);
-        narrow_dct::level3(&mut t);
-        narrow_dct::level4_first(&mut t);
-        narrow_dct::level4_last(&mut t);
-        store(z, &t, 8 * q + j, 16, true);
-    }
-}
-
-fn dct32_columns(z: &mut [i16; 1024], q: usize)
-    requires { (8 * q + 8 ≤ 32) × (length z.old ≡ 1024) × StripKeeps true Dct 5 (8 * q) (raster 32 z.old) }
-    ensures { Holds 32 (strip true Dct 5 (8 * q) 8 (raster 32 z.old)) z.new }
-{
-    for j in 0..8usize {
-        let mut t = [0i16; 32];
-        load(&mut t, z, 8 * q + j, 32, true);
-        narrow_dct::permute(&mut t, 5, 4, 8);
-        narrow_dct::level2(&mut t);
-        narrow_dct::level3(&mut t);
-        narrow_dct::level4_first(&mut t);
-        narrow_dct::level4_last(&mut t);
-        narrow_dct::level5_turns(&mut t);
-        narrow_dct::level5_first(&mut t);
-        narrow_dct::level5_next(&mut t);
-        narrow_dct::level5_last(&mut t);
-        narrow_dct::level5_sums(&mut t);
-        store(z, &t, 8 * q + j, 32, true);
-    }
-}
-
-fn adst8_columns(z: &mut [i16; 1024], q: usize)
-    requires { (8 * q + 8 ≤ 8) × (length z.old ≡ 1024) × StripKeeps true Adst 3 (8 * q) (raster 8 z.old) }
-    ensures { Holds 8 (strip true Adst 3 (8 * q) 8 (raster 8 z.old)) z.new }
-{
-    for j in 0..8usize {
-        let mut t = [0i16; 32];
-        let mut s = [0i32; 16];
-        load(&mut t, z, 8 * q + j, 8, true);
-        narrow_adst::permute(&mut t, 3, 2, 4, false);
-        narrow_adst::adst8_first(&mut t, &mut s);
-        narrow_adst::adst8_next(&mut t, &mut s);
-        narrow_adst::adst8_last(&mut t);
-        store(z, &t, 8 * q + j, 8, true);
-    }
-}
-
-fn adst16_columns(z: &mut [i16; 1024], q: usize)
-    requires { (8 * q + 8 ≤ 16) × (length z.old ≡ 1024) × StripKeeps true Adst 4 (8 * q) (raster 16 z.old) }
-    ensures { Holds 16 (strip true Adst 4 (8 * q) 8 (raster 16 z.old)) z.new }
-{
-    for j in 0..8usize {
-        let mut t = [0i16; 32];
-        let mut s = [0i32; 16];
-        load(&mut t, z, 8 * q + j, 16, true);
-        narrow_adst::permute(&mut t, 4, 4, 4, false);
-        narrow_adst::adst16_turns(&t, &mut s);
-        narrow_adst::adst16_first(&mut t, &s);
-        narrow_adst::adst16_next(&mut t, &mut s);
-        narrow_adst::adst16_more(&mut t, &mut s);
-        narrow_adst::adst16_last(&mut t);
-        store(z, &t, 8 * q + j, 16, true);
-    }
-}
-
-// Eight rows, by size and transform.
-fn eight_rows(z: &mut [i16; 1024], q: usize, n: u32, use_dct: bool)
-    requires { (3 ≤ n) × (n ≤ 5) × (use_dct ≡ false → n ≤ 4) × (8 * q + 8 ≤ side n) × (length z.old ≡ 1024) × StripKeeps false (lossy use_dct) n (8 * q) (raster (side n) z.old) }
-    ensures { Holds (side n) (strip false (lossy use_dct) n (8 * q) 8 (raster (side n) z.old)) z.new }
+// Eight lines, by size and transform.
+fn eight_lines<D: Direction>(z: &mut [i16; 1024], q: usize, n: u32, use_dct: bool)
+    requires { (3 ≤ n) × (n ≤ 5) × (use_dct ≡ false → n ≤ 4) × (8 * q + 8 ≤ side n) × (length z.old ≡ 1024) × StripKeeps D.goes_down (lossy use_dct) n (8 * q) (raster (side n) z.old) }
+    ensures { Holds (side n) (strip D.goes_down (lossy use_dct) n (8 * q) 8 (raster (side n) z.old)) z.new }
 {
     if use_dct {
         if n == 3 {
-            dct8_rows(z, q);
+            eight::<Dct8, D>(z, q);
         } else if n == 4 {
-            dct16_rows(z, q);
+            eight::<Dct16, D>(z, q);
         } else {
-            dct32_rows(z, q);
+            eight::<Dct32, D>(z, q);
         }
     } else if n == 3 {
-        adst8_rows(z, q);
+        eight::<Adst8, D>(z, q);
     } else {
-        adst16_rows(z, q);
-    }
-}
-
-// Eight columns, by size and transform.
-fn eight_columns(z: &mut [i16; 1024], q: usize, n: u32, use_dct: bool)
-    requires { (3 ≤ n) × (n ≤ 5) × (use_dct ≡ false → n ≤ 4) × (8 * q + 8 ≤ side n) × (length z.old ≡ 1024) × StripKeeps true (lossy use_dct) n (8 * q) (raster (side n) z.old) }
-    ensures { Holds (side n) (strip true (lossy use_dct) n (8 * q) 8 (raster (side n) z.old)) z.new }
-{
-    if use_dct {
-        if n == 3 {
-            dct8_columns(z, q);
-        } else if n == 4 {
-            dct16_columns(z, q);
-        } else {
-            dct32_columns(z, q);
-        }
-    } else if n == 3 {
-        adst8_columns(z, q);
-    } else {
-        adst16_columns(z, q);
-    }
-}
-
-// Eight lines, rows or columns.
-fn eight(z: &mut [i16; 1024], q: usize, n: u32, use_dct: bool, down: bool)
-    requires { (3 ≤ n) × (n ≤ 5) × (use_dct ≡ false → n ≤ 4) × (8 * q + 8 ≤ side n) × (length z.old ≡ 1024) × StripKeeps «down» (lossy use_dct) n (8 * q) (raster (side n) z.old) }
-    ensures { Holds (side n) (strip «down» (lossy use_dct) n (8 * q) 8 (raster (side n) z.old)) z.new }
-{
-    if down {
-        eight_columns(z, q, n, use_dct);
-    } else {
-        eight_rows(z, q, n, use_dct);
+        eight::<Adst16, D>(z, q);
     }
 }
 
 // The lines of the first `strips` strips of eight.
-fn lines(z: &mut [i16; 1024], n: u32, use_dct: bool, strips: usize, down: bool)
-    requires { (3 ≤ n) × (n ≤ 5) × (use_dct ≡ false → n ≤ 4) × (8 * strips ≤ side n) × (length z.old ≡ 1024) × ((i : ℕ) → i < 8 * strips → Keeps (lossy use_dct) n (line_of «down» (side n) i (raster (side n) z.old))) }
-    ensures { Holds (side n) (first «down» (lossy use_dct) n (8 * strips) (raster (side n) z.old)) z.new }
+fn lines<D: Direction>(z: &mut [i16; 1024], n: u32, use_dct: bool, strips: usize)
+    requires { (3 ≤ n) × (n ≤ 5) × (use_dct ≡ false → n ≤ 4) × (8 * strips ≤ side n) × (length z.old ≡ 1024) × ((i : ℕ) → i < 8 * strips → Keeps (lossy use_dct) n (line_of D.goes_down (side n) i (raster (side n) z.old))) }
+    ensures { Holds (side n) (first D.goes_down (lossy use_dct) n (8 * strips) (raster (side n) z.old)) z.new }
 {
     for q in 0..strips {
-        eight(z, q, n, use_dct, down);
+        eight_lines::<D>(z, q, n, use_dct);
     }
 }
 
@@ -307,7 +277,7 @@ pub fn rows(z: &mut [i16; 1024], n: u32, use_dct: bool, strips: usize)
     requires { (3 ≤ n) × (n ≤ 5) × (use_dct ≡ false → n ≤ 4) × (length z.old ≡ 1024) × (8 * strips ≤ side n) × ((i : ℕ) → i < side n → Keeps (lossy use_dct) n (row (side n) i (raster (side n) z.old))) × Dead (8 * strips * side n) (raster (side n) z.old) }
     ensures { (length z.new ≡ 1024) × (raster (side n) z.new ≡ rows (apply (lossy use_dct) n) (side n) (raster (side n) z.old)) }
 {
-    lines(z, n, use_dct, strips, false);
+    lines::<ByRow>(z, n, use_dct, strips);
 }
 
 // All columns of a block, not rounded.
@@ -316,7 +286,7 @@ pub fn columns(z: &mut [i16; 1024], n: u32, use_dct: bool)
     ensures { (length z.exit.now ≡ 1024) × (raster (side n) z.exit.now ≡ columns (apply (lossy use_dct) n) (λ z. z) (side n) (raster (side n) z.entry.now)) }
 {
     let strips = answers::side(n) / 8;
-    lines(z, n, use_dct, strips, true);
+    lines::<ByColumn>(z, n, use_dct, strips);
 }
 
 // Round2 by two shifts, so that no sum leaves 16 bits.

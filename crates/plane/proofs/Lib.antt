@@ -1,4 +1,3 @@
-pub mod Sum
 pub mod Row
 pub mod Block
 pub mod Count

@@ -4,69 +4,35 @@
 ghost use Rattle.std.specs.Prelude.{◌≡◌, ℕ, min, ◌+◌, ◌-◌, ◌*◌, ◌/◌, ◌%◌, ◌≤◌, ◌<◌, pos, ◌+ℤ◌, length, get_or, replicate};
 ghost use Rattle.whole.specs.Lists.{fill};
 ghost use Rattle.whole.specs.Parts.{P, N};
-ghost use Rattle.plane.specs.Place.{SamplesOf, cut};
+ghost use Rattle.plane.specs.Place.{SamplesOf};
 ghost use Rattle.plane.specs.Plane.{clip, plane_after};
 ghost use Rattle.plane.specs.Inner.{row_after};
 ghost use Rattle.narrow.specs.Tile.{place};
 
-use plane::{Plane, cut};
-
-// s + p, at most 65,535.
-fn up(s: u16, p: u16) -> u16
-    ensures { result ≡ min 65535 (s + p) }
-{
-    if 65535 - p < s {
-        return 65535;
-    }
-    s + p
-}
-
-// s - q, at least 0.
-fn down(s: u16, q: u16) -> u16
-    ensures { result ≡ s - q }
-{
-    if s < q {
-        return 0;
-    }
-    s - q
-}
-
-// The smaller of the two.
-fn least(a: u16, b: u16) -> u16
-    ensures { result ≡ min a b }
-{
-    if a < b {
-        return a;
-    }
-    b
-}
+use plane::{Plane, Residuals};
 
 // The positive part.
 fn positive(r: i16) -> u16
     ensures { result ≡ P r }
 {
-    if r < 0 {
-        return 0;
-    }
-    r as u16
+    r.max(0) as u16
 }
 
 // The negative part, of the least number too.
 fn negative(r: i16) -> u16
     ensures { result ≡ N r }
 {
-    let w = r as i32;
-    if w < 0 {
-        return (-w) as u16;
-    }
-    0
+    r.min(0).unsigned_abs()
 }
 
-// A sample and its residual, clipped to 0 .. top: no number leaves 16 bits.
+// A sample and its residual, clipped to 0 .. top: no number leaves 16 bits. By the two parts: `saturating_add_signed` takes half as long again.
 fn clip(sample: u16, r: i16, top: u16) -> u16
     ensures { result ≡ clip top (pos sample +ℤ r) }
 {
-    least(down(up(sample, positive(r)), negative(r)), top)
+    sample
+        .saturating_add(positive(r))
+        .saturating_sub(negative(r))
+        .min(top)
 }
 
 // Eight samples from `at` on with their residuals.
@@ -103,55 +69,38 @@ fn add_rest(samples: &mut [u16], at: usize, z: &[i16; 1024], from: usize, cols: 
     }
 }
 
-// Row i of a block of n0 columns, as far as the plane has it: eight columns of each strip.
-fn add_row(
-    samples: &mut [u16],
-    at: usize,
-    z: &[i16; 1024],
+// Residuals that stand by strips of eight columns.
+#[derive(Clone, Copy)]
+struct Strips<'a> {
+    z: &'a [i16; 1024],
     n0: usize,
-    i: usize,
-    cols: usize,
-    top: u16,
-)
-    requires { (at + cols ≤ length samples.old) × (n0 ≤ 32) × (i < n0) × (cols ≤ n0) }
-    ensures { (k : ℕ) → get_or samples.new k 0 ≡ row_after top (λ j. get_or z.now (place n0 i j) (pos 0)) at cols samples.old k }
-{
-    let eights = cols / 8;
-    for q in 0..eights {
-        add_eight(samples, at + 8 * q, z, 8 * n0 * q + 8 * i, top);
-    }
-    let done = 8 * eights;
-    add_rest(
-        samples,
-        at + done,
-        z,
-        8 * n0 * eights + 8 * i,
-        cols - done,
-        top,
-    );
 }
 
-// The residuals of n0 rows and columns into the samples at (x, y), of which the plane has `rows` and `cols`.
-fn add_rows(
-    samples: &mut [u16],
-    plane: Plane,
-    x: usize,
-    y: usize,
-    z: &[i16; 1024],
-    n0: usize,
-    rows: usize,
-    cols: usize,
-    top: u16,
-)
-    requires { SamplesOf plane samples.old × (n0 ≤ 32) × (x < plane.width) × (rows ≡ cut plane.height y n0) × (cols ≡ cut plane.width x n0) }
-    ensures { samples.new ≡ plane_after plane top x y n0 (λ i j. get_or z.now (place n0 i j) (pos 0)) samples.old }
-{
-    for i in 0..rows {
-        add_row(samples, plane::place(plane, y + i, x), z, n0, i, cols, top);
+impl<'a> Residuals for Strips<'a> {
+    ghost residual = { λ s i j. get_or s.z.now (place s.n0 i j) (pos 0) };
+
+    ghost has = { λ s i m. (s.n0 ≤ 32) × (i < s.n0) × (m ≤ s.n0) };
+
+    // Eight columns of each strip.
+    fn add_row(self, samples: &mut [u16], at: usize, i: usize, cols: usize, top: u16) {
+        let n0 = self.n0;
+        let eights = cols / 8;
+        for q in 0..eights {
+            add_eight(samples, at + 8 * q, self.z, 8 * n0 * q + 8 * i, top);
+        }
+        let done = 8 * eights;
+        add_rest(
+            samples,
+            at + done,
+            self.z,
+            8 * n0 * eights + 8 * i,
+            cols - done,
+            top,
+        );
     }
 }
 
-// The same at any place, inside the plane or not.
+// The residuals of n0 rows and columns into the samples at (x, y), inside the plane or not.
 pub fn add_back(
     samples: &mut [u16],
     plane: Plane,
@@ -164,19 +113,5 @@ pub fn add_back(
     requires { SamplesOf plane samples.old × (n0 ≤ 32) }
     ensures { samples.new ≡ plane_after plane top x y n0 (λ i j. get_or z.now (place n0 i j) (pos 0)) samples.old }
 {
-    let cols = cut(plane.width, x, n0);
-    if cols == 0 {
-        return;
-    }
-    add_rows(
-        samples,
-        plane,
-        x,
-        y,
-        z,
-        n0,
-        cut(plane.height, y, n0),
-        cols,
-        top,
-    );
+    plane::add_block(samples, plane, x, y, Strips { z, n0 }, n0, top);
 }

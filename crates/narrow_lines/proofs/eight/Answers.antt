@@ -1,25 +1,39 @@
--- `narrow_lines::eight` meets its contract.
-use mathlib.Core.Path.{◌≡◌, subst}
-use mathlib.Core.Bool.{Bool}
+-- `narrow_lines::eight` meets its contract: a turn is one line.
+use mathlib.Core.Path.{◌≡◌, ◌∙◌}
 use Prim.Native.Nat.{◌*◌}
+use native.Mathlib.Omega.{arith}
 use Rattle.answers.specs.Sizes.{side}
-use Rattle.blocks.specs.Inverse.{lossy}
 use Rattle.narrow.specs.Tile.{raster}
-use Rattle.narrow_lines.specs.Inner.{StripKeeps}
+use Rattle.narrow_lines.proofs.Strips.{strip_none, strip_done, strip_fine, strip_next}
 use Rattle.narrow_lines.proofs.eight.Goals as goal
-use Rattle.narrow_lines.proofs.eight.Goals.{Start}
 
-keeps : (s : Start) {b : Bool} → s.args.down ≡ b → StripKeeps b (lossy s.args.use_dct) s.args.n (8 * s.args.q) (raster (side s.args.n) s.args.z.now)
-keeps s e = subst (λ (b : Bool). StripKeeps b (lossy s.args.use_dct) s.args.n (8 * s.args.q) (raster (side s.args.n) s.args.z.now)) e s.requires.5
+pub loop-j-init : goal.loop-j-init
+loop-j-init g c =
+    let T = g.T.Transform in
+    (omega arith, strip_none g.D.Direction.goes_down T.pass T.n (8 * c.args.q) c.requires.1)
 
-pub eight_columns-requires : goal.eight_columns-requires
-eight_columns-requires c = (c.requires.0, c.requires.1, c.requires.2, c.requires.3, c.requires.4, keeps c.before.before c.if-down.true)
+pub run-requires : goal.run-requires
+run-requires g c =
+    let T = g.T.Transform in
+    let size = g.met.T.Transform.size in
+    let e : c.SIDE.result ≡ side T.n = c.SIDE.ensures ∙ size.0 in
+    let loaded = rw e at c.load.ensures in
+    (strip_fine g.D.Direction.goes_down T.pass T.n (8 * c.args.q) c.loop-j.j (raster (side T.n) c.args.z.now) c.loop-j.invariant.1 loaded size.1.1 c.requires.2 c.loop-j-test.true
+    c.requires.0).1
 
-pub eight_rows-requires : goal.eight_rows-requires
-eight_rows-requires c = (c.requires.0, c.requires.1, c.requires.2, c.requires.3, c.requires.4, keeps c.before.before c.if-down.false)
+pub loop-j-preserved : goal.loop-j-preserved
+loop-j-preserved g c =
+    let T = g.T.Transform in
+    let size = g.met.T.Transform.size in
+    let e : c.SIDE.result ≡ side T.n = c.SIDE.ensures ∙ size.0 in
+    let f : c.SIDE-in-loop-j.result ≡ side T.n = c.SIDE-in-loop-j.ensures ∙ size.0 in
+    let loaded = rw e at c.load.ensures in
+    let stored = rw f at c.store.ensures in (
+      omega (arith, c.loop-j-test.true),
+      strip_next g.D.Direction.goes_down T.pass T.n (8 * c.args.q) c.loop-j.j (raster (side T.n) c.args.z.now) c.loop-j.invariant.1 loaded c.run.ensures stored,
+    )
 
-pub returns-then-down : goal.returns-then-down
-returns-then-down c = rw c.if-down.true c.eight_columns.ensures
-
-pub returns-else-down : goal.returns-else-down
-returns-else-down c = rw c.if-down.false c.eight_rows.ensures
+pub returns : goal.returns
+returns g c =
+    let T = g.T.Transform in
+    strip_done g.D.Direction.goes_down T.pass T.n (8 * c.args.q) c.loop-j.j (raster (side T.n) c.args.z.now) c.loop-j.invariant.0 c.loop-j-test.false c.loop-j.invariant.1

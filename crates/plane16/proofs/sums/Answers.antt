@@ -7,7 +7,6 @@ use lib.ListN.{get_or, set}
 use mir.Syntax.{w16}
 use mir.ValLaws.{to_z-of_z}
 use Rattle.whole.proofs.Lists.{fill_none, fill_more, fill_done}
-use Rattle.plane.specs.Plane.{clip}
 use Rattle.plane16.proofs.sums.Goals as goal
 
 pub loop-j-preserved : goal.loop-j-preserved
