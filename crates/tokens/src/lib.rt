@@ -16,9 +16,7 @@ use answers::{
     bad_tx_type, magnitude,
 };
 use plane::Plane;
-use quant::{
-    AcQuant, DcQuant, bad_quantizers, dequant, max_codeable_coef, quantizer_at,
-};
+use quant::{AcQuant, DcQuant, bad_quantizers, dequant, max_codeable_coef, quantizer_at};
 
 // A stride below the width, a stride or a side above its limit, or samples not exactly stride × height. A width above the limit is one of the first two.
 fn bad_plane(samples: usize, plane: Plane) -> bool
