@@ -18,14 +18,15 @@ use Rattle.adst.proofs.Adst.{adst_stays, adst_zeros}
 use Rattle.adst.proofs.Ranges.{adst_row, adst_column}
 use Rattle.wht.proofs.Wht.{wht_stays, wht_zeros}
 use Rattle.wht.proofs.Ranges.{wht_row_lem, wht_column}
-use Rattle.blocks.specs.Inner.{FirstWithin, Possible, Safe}
+pub use Rattle.blocks.specs.Inner.{Valid}
+use Rattle.blocks.specs.Inner.{FirstWithin, Possible, Safe, Sized}
 use Rattle.blocks.specs.Inverse.{Pass, Dct, Adst, Wht, apply, lossy, row_pass, column_pass}
 
--- a transform of 2^n numbers that there is; the WHT at the pass's shift
-abbrev pub Valid : ℕ → Pass → ℕ → Type 0
-Valid shift Dct n = (2 ≤ n) × (n ≤ 5)
-Valid shift Adst n = (2 ≤ n) × (n ≤ 4)
-Valid shift (Wht k) n = (n ≡ 2) × (k ≡ shift)
+-- what is Valid at a shift of at most 2 is Sized
+pub valid_sized : (shift : ℕ) (p : Pass) (n : ℕ) → shift ≤ 2 → Valid shift p n → Sized p n
+valid_sized shift Dct n s v = v
+valid_sized shift Adst n s v = v
+valid_sized shift (Wht k) n s v = (v.0, omega (arith, v.1))
 
 -- ---- the same range in two forms
 pub first_each : {m n : ℕ} {t : List ℤ} → FirstWithin m n t → EachWithin (replicate n m) t

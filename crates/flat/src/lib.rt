@@ -1,7 +1,7 @@
 // The single steps of the fast engine, as straight-line code calls them: rotations by three products, permutations.
 #![tactic(auto)]
 
-ghost use Rattle.std.specs.Prelude.{◌≡◌, ℕ, ◌+◌, ◌*◌, ◌^◌, ◌≤◌, ◌<◌, length, get_or};
+ghost use Rattle.std.specs.Prelude.{◌≡◌, ℕ, ◌+◌, ◌*◌, ◌^◌, ◌≤◌, ◌<◌, get_or};
 ghost use Rattle.whole.specs.Within.{Within};
 ghost use Rattle.primitives.specs.Brev.{Brev};
 ghost use Rattle.primitives.specs.Rotations.{turn_x, turn_y};
@@ -101,13 +101,13 @@ pub fn fneg(t: &mut [i64; 32], i: usize)
     t[i] = -t[i];
 }
 
-// t[i] = copy_t[from[at + i]] for i below n0. The table is lent: it folds away where the caller has it whole.
-pub fn reorder(t: &mut [i64; 32], from: &[usize], at: usize, n0: usize)
-    requires { (n0 ≤ 32) × (at + n0 ≤ length from.now) × ((i : ℕ) → i < n0 → get_or from.now (at + i) 0 < 32) }
-    ensures { t.new ≡ step (Move n0 (λ i. get_or from.now (at + i) 0)) t.old }
+// t[i] = copy_t[from[i]] for i below N. The table is lent: it folds away where the caller has it whole.
+pub fn reorder<const N: usize>(t: &mut [i64; 32], from: &[usize; N])
+    requires { (N ≤ 32) × ((i : ℕ) → i < N → get_or from.now i 0 < 32) }
+    ensures { t.new ≡ step (Move N (λ i. get_or from.now i 0)) t.old }
 {
     let copy_t = *t;
-    for i in 0..n0 {
-        t[i] = copy_t[from[at + i]];
+    for i in 0..N {
+        t[i] = copy_t[from[i]];
     }
 }

@@ -1,6 +1,6 @@
 use Rattle.blocks.specs.Inverse.{rounding}
 use borrow.Author.Rules.{rules}
-use Rattle.reference.proofs.store_column.Goals as goal
+use Rattle.blocks.proofs.store_column.Goals as goal
 
 pub store-requires : goal.store-requires
 store-requires c = (c.side-n0.ensures.1, rw c.side-n0.ensures.0 c.requires.2)
