@@ -1,7 +1,7 @@
 // The single steps of the fast engine, as straight-line code calls them: rotations by three products, permutations.
 #![tactic(auto)]
 
-ghost use Rattle.std.specs.Prelude.{◌≡◌, ℕ, ◌+◌, ◌*◌, ◌^◌, ◌≤◌, ◌<◌, get_or};
+ghost use Rattle.std.specs.Prelude.{◌≡◌, ℕ, ◌+◌, ◌*◌, ◌^◌, ◌≤◌, ◌<◌, length, get_or};
 ghost use Rattle.whole.specs.Within.{Within};
 ghost use Rattle.primitives.specs.Brev.{Brev};
 ghost use Rattle.primitives.specs.Rotations.{turn_x, turn_y};
@@ -101,13 +101,14 @@ pub fn fneg(t: &mut [i64; 32], i: usize)
     t[i] = -t[i];
 }
 
-// t[i] = copy_t[from[i]] for i below N. The table is lent: it folds away where the caller has it whole.
-pub fn reorder<const N: usize>(t: &mut [i64; 32], from: &[usize; N])
-    requires { (N ≤ 32) × ((i : ℕ) → i < N → get_or from.now i 0 < 32) }
-    ensures { t.new ≡ step (Move N (λ i. get_or from.now i 0)) t.old }
+// t[i] = copy_t[from[i]] for each place of the table, which is lent: it folds away where the caller has it whole. With its length a const
+// parameter the loop would unroll before that.
+pub fn reorder(t: &mut [i64; 32], from: &[usize])
+    requires { (length from.now ≤ 32) × ((i : ℕ) → i < length from.now → get_or from.now i 0 < 32) }
+    ensures { t.new ≡ step (Move (length from.now) (λ i. get_or from.now i 0)) t.old }
 {
     let copy_t = *t;
-    for i in 0..N {
+    for i in 0..from.len() {
         t[i] = copy_t[from[i]];
     }
 }

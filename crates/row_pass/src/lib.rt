@@ -1,5 +1,6 @@
 // A line of a block through its transform, and the rows that a summary names, counted where they are transformed.
-// The size is a const parameter, so that its numbers are literals and the loops unroll.
+// The size is a const parameter, so that its numbers are literals and the loops unroll. Whether a pass is lossless is one too, and leaves in each
+// function the transforms that it can meet: with all three in one, 4 by 4 took twice as long.
 #![tactic(auto)]
 
 ghost use Rattle.std.specs.Prelude.{◌≡◌, ◌+◌, ◌^◌, ◌≤◌, ◌<◌, length};
@@ -7,7 +8,7 @@ ghost use Rattle.answers.specs.Sizes.{side, area};
 ghost use Rattle.blocks.specs.Block.{row, change_row};
 ghost use Rattle.blocks.specs.Inner.{FirstWithin, Valid, Sized, Safe};
 ghost use Rattle.blocks.specs.Inverse.{apply};
-ghost use Rattle.blocks.specs.Kind.{pass_of};
+ghost use Rattle.blocks.specs.Kind.{pass_of, is_wht};
 ghost use Rattle.row_pass.specs.Inner.{Clear, Passed};
 
 use blocks::Transform;
@@ -34,32 +35,44 @@ pub fn no_rows() -> RowCount
 }
 
 // A line of 2^N numbers through its transform.
-pub fn line<const N: u32>(t: &mut [i64; 32], transform: Transform)
-    requires { Sized (pass_of transform) N × Safe (pass_of transform) N t.old }
+pub fn line<const N: u32, const LOSSLESS: bool>(t: &mut [i64; 32], transform: Transform)
+    requires { (is_wht (pass_of transform) ≡ LOSSLESS) × Sized (pass_of transform) N × Safe (pass_of transform) N t.old }
     ensures { t.new ≡ apply (pass_of transform) N t.old }
 {
     match transform {
-        Transform::Dct => flat_dct::idct_fast::<N>(t),
-        Transform::Adst => flat_adst::iadst_fast::<N>(t),
-        Transform::Wht(shift) => wht::inverse_wht(t, shift),
+        Transform::Dct => {
+            if !LOSSLESS {
+                flat_dct::idct_fast::<N>(t);
+            }
+        }
+        Transform::Adst => {
+            if !LOSSLESS {
+                flat_adst::iadst_fast::<N>(t);
+            }
+        }
+        Transform::Wht(shift) => {
+            if LOSSLESS {
+                wht::inverse_wht(t, shift);
+            }
+        }
     }
 }
 
 // Row i through its transform, and one more counted: nothing else adds to a count.
-fn row<const N: u32>(block: &mut [i64], t: &mut [i64; 32], i: usize, transform: Transform, count: u32) -> u32
-    requires { (2 ≤ N) × (N ≤ 5) × Valid 2 (pass_of transform) N × (i < side N) × (area N ≤ length block.old) × Safe (pass_of transform) N (row (side N) i block.old) × Clear (side N) t.old × (count < side N) }
+fn row<const N: u32, const LOSSLESS: bool>(block: &mut [i64], t: &mut [i64; 32], i: usize, transform: Transform, count: u32) -> u32
+    requires { (2 ≤ N) × (N ≤ 5) × Valid 2 (pass_of transform) N × (i < side N) × (area N ≤ length block.old) × Safe (pass_of transform) N (row (side N) i block.old) × Clear (side N) t.old × (count < side N) × (is_wht (pass_of transform) ≡ LOSSLESS) }
     ensures { (block.new ≡ change_row (apply (pass_of transform) N) (side N) i block.old) × Clear (side N) t.new × (result ≡ count + 1) }
 {
     let n0 = answers::side(N);
     blocks::load(t, block, i * n0, 1, n0);
-    line::<N>(t, transform);
+    line::<N, LOSSLESS>(t, transform);
     blocks::store(block, t, i * n0, 1, n0);
     count + 1
 }
 
 // The rows whose bit is set, and no other, whatever the summary is of, through their transform; and how many they were.
-pub fn rows<const N: u32>(block: &mut [i64], summary: u32, transform: Transform) -> RowCount
-    requires { (2 ≤ N) × (N ≤ 5) × Valid 2 (pass_of transform) N × (area N ≤ length block.old) × FirstWithin (2 ^ 31) (area N) block.old }
+pub fn rows<const N: u32, const LOSSLESS: bool>(block: &mut [i64], summary: u32, transform: Transform) -> RowCount
+    requires { (2 ≤ N) × (N ≤ 5) × Valid 2 (pass_of transform) N × (area N ≤ length block.old) × FirstWithin (2 ^ 31) (area N) block.old × (is_wht (pass_of transform) ≡ LOSSLESS) }
     ensures { Passed (pass_of transform) N summary block.old block.new result.number }
 {
     let n0 = answers::side(N);
@@ -67,7 +80,7 @@ pub fn rows<const N: u32>(block: &mut [i64], summary: u32, transform: Transform)
     let mut count = 0u32;
     for i in 0..n0 {
         if summary::is_set(summary, i) {
-            count = row::<N>(block, &mut t, i, transform, count);
+            count = row::<N, LOSSLESS>(block, &mut t, i, transform, count);
         }
     }
     RowCount { number: count }

@@ -18,4 +18,4 @@ unfolding step move fill adst_out out8 out16
 returns c = c.reorder.ensures
 
 pub reorder-requires : goal.reorder-requires
-reorder-requires c = (lit< tt, (lit≤ tt, λ i h. let e : 0 + i ≡ i = omega arith in rw e at (places table 0 16 tt i h)))
+reorder-requires c = (lit≤ tt, λ i h. let e : 0 + i ≡ i = omega arith in rw e at (places table 0 16 tt i h))

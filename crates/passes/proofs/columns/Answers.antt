@@ -3,7 +3,7 @@ use native.Mathlib.Omega.{arith}
 use Rattle.blocks.specs.Block.{columns}
 use Rattle.blocks.specs.Inverse.{apply, column_pass, rounding}
 use Rattle.blocks.specs.Kind.{pass_of}
-use Rattle.blocks.proofs.Passes.{Valid, column_valid, valid_sized}
+use Rattle.blocks.proofs.Passes.{Valid, column_valid, valid_sized, column_wht}
 use Rattle.blocks.proofs.Turns.{Job, columns_job, turn_none, turn_inside, turn_safe, turn_grown, turn_next, turn_done}
 use Rattle.passes.proofs.columns.Given.{Over}
 use Rattle.passes.proofs.columns.Goals as goal
@@ -11,15 +11,15 @@ use Rattle.passes.proofs.columns.Goals.{After-column_transform-transform}
 
 -- the pass by the type
 valid : (g : Over) (c : After-column_transform-transform g) → Valid 0 (pass_of c.column_transform-transform.result) g.row.N
-valid g c = rw c.column_transform-transform.ensures (column_valid g.row.N c.args.tx_type c.args.lossless c.requires.0)
+valid g c = rw c.column_transform-transform.ensures (column_valid g.row.N c.args.tx_type g.row.LOSSLESS c.requires.0)
 
 -- all columns of the block
 job : (g : Over) (c : After-column_transform-transform g)
-    → Job (pass_of c.column_transform-transform.result) g.row.N c.side-n0.result (rounding g.row.N c.args.lossless) (λ j. j) c.side-n0.result c.args.block.now
-    (columns (apply (column_pass c.args.tx_type c.args.lossless) g.row.N) (rounding g.row.N c.args.lossless) (2 ^ g.row.N) c.args.block.now)
+    → Job (pass_of c.column_transform-transform.result) g.row.N c.side-n0.result (rounding g.row.N g.row.LOSSLESS) (λ j. j) c.side-n0.result c.args.block.now
+    (columns (apply (column_pass c.args.tx_type g.row.LOSSLESS) g.row.N) (rounding g.row.N g.row.LOSSLESS) (2 ^ g.row.N) c.args.block.now)
 job g c =
     rw (c.side-n0.ensures.0, c.column_transform-transform.ensures)
-    (columns_job (column_pass c.args.tx_type c.args.lossless) g.row.N (rounding g.row.N c.args.lossless) c.args.block.now c.requires.0.least c.requires.0.most (column_valid g.row.N c.args.tx_type c.args.lossless c.requires.0) c.requires.1 c.requires.2)
+    (columns_job (column_pass c.args.tx_type g.row.LOSSLESS) g.row.N (rounding g.row.N g.row.LOSSLESS) c.args.block.now c.requires.0.least c.requires.0.most (column_valid g.row.N c.args.tx_type g.row.LOSSLESS c.requires.0) c.requires.1 c.requires.2)
 
 pub load-requires : goal.load-requires
 load-requires g c =
@@ -27,7 +27,7 @@ load-requires g c =
 
 pub line-requires : goal.line-requires
 line-requires g c =
-    (valid_sized 0 _ _ (omega arith) (valid g c.before.before.before.before.before), turn_safe (job g c.before.before.before.before.before) c.loop-j.invariant c.loop-j-test.true c.load.ensures)
+    (rw c.column_transform-transform.ensures (column_wht c.args.tx_type g.row.LOSSLESS), valid_sized 0 _ _ (omega arith) (valid g c.before.before.before.before.before), turn_safe (job g c.before.before.before.before.before) c.loop-j.invariant c.loop-j-test.true c.load.ensures)
 
 pub store_column-requires : goal.store_column-requires
 store_column-requires g c =

@@ -6,28 +6,28 @@ pub idct_fast-requires : goal.idct_fast-requires
 unfolding Safe
 idct_fast-requires g c =
     let q = rw c.in-Dct.is at c.requires in
-    (q.0.0, q.0.1, q.1)
+    (q.1.0, q.1.1, q.2)
 
 pub iadst_fast-requires : goal.iadst_fast-requires
 unfolding Safe
 iadst_fast-requires g c =
     let q = rw c.in-Adst.is at c.requires in
-    (q.0.0, q.0.1, q.1)
+    (q.1.0, q.1.1, q.2)
 
 pub inverse_wht-requires : goal.inverse_wht-requires
 unfolding Safe
 inverse_wht-requires g c =
     let q = rw c.in-Wht.is at c.requires in
-    (q.0.1, q.1)
+    (q.1.1, q.2)
 
-pub returns-in-Dct : goal.returns-in-Dct
+pub returns-then-not-this : goal.returns-then-not-this
 unfolding apply
-returns-in-Dct g c = rw c.in-Dct.is c.idct_fast.ensures
+returns-then-not-this g c = rw c.in-Dct.is c.idct_fast.ensures
 
-pub returns-in-Adst : goal.returns-in-Adst
+pub returns-then-not-this-2 : goal.returns-then-not-this-2
 unfolding apply
-returns-in-Adst g c = rw c.in-Adst.is c.iadst_fast.ensures
+returns-then-not-this-2 g c = rw c.in-Adst.is c.iadst_fast.ensures
 
-pub returns-in-Wht : goal.returns-in-Wht
+pub returns-then-this-ne0 : goal.returns-then-this-ne0
 unfolding apply
-returns-in-Wht g c = rw c.in-Wht.is c.inverse_wht.ensures
+returns-then-this-ne0 g c = rw c.in-Wht.is c.inverse_wht.ensures

@@ -29,6 +29,7 @@ pub line-requires : goal.line-requires
 line-requires g c =
     let p = pass_of c.args.transform in
     let n = g.row.N in (
+      c.requires.8,
       valid_sized 2 p n (omega arith) c.requires.2,
       line_safe p n c.args.i c.args.block.now c.args.t.now c.requires.0 c.requires.1 c.requires.6 (rw c.side-n0.ensures.0 at c.load.ensures) c.requires.5,
     )

@@ -27,6 +27,7 @@ row-count-requires g c =
       turn_safe (job g c.before.before.before.before.before.before.before) turn hi,
       turn.clear,
       omega (arith, turn.few, hi),
+      c.requires.5,
     )
 
 pub loop-i-preserved : goal.loop-i-preserved
