@@ -1,3 +1,5 @@
+use mathlib.Core.Bool.{not}
+use lib.Dec.{eqb}
 use Prim.Native.Nat.{◌^◌}
 use native.Mathlib.Omega.{arith}
 use Rattle.blocks.specs.Block.{columns}
@@ -11,15 +13,15 @@ use Rattle.passes.proofs.columns.Goals.{After-column_transform-transform}
 
 -- the pass by the type
 valid : (g : Over) (c : After-column_transform-transform g) → Valid 0 (pass_of c.column_transform-transform.result) g.row.N
-valid g c = rw c.column_transform-transform.ensures (column_valid g.row.N c.args.tx_type g.row.LOSSLESS c.requires.0)
+valid g c = rw c.column_transform-transform.ensures (column_valid g.row.N c.args.tx_type (not (eqb g.row.LOSSLESS 0)) c.requires.0)
 
 -- all columns of the block
 job : (g : Over) (c : After-column_transform-transform g)
-    → Job (pass_of c.column_transform-transform.result) g.row.N c.side-n0.result (rounding g.row.N g.row.LOSSLESS) (λ j. j) c.side-n0.result c.args.block.now
-    (columns (apply (column_pass c.args.tx_type g.row.LOSSLESS) g.row.N) (rounding g.row.N g.row.LOSSLESS) (2 ^ g.row.N) c.args.block.now)
+    → Job (pass_of c.column_transform-transform.result) g.row.N c.side-n0.result (rounding g.row.N (not (eqb g.row.LOSSLESS 0))) (λ j. j) c.side-n0.result c.args.block.now
+    (columns (apply (column_pass c.args.tx_type (not (eqb g.row.LOSSLESS 0))) g.row.N) (rounding g.row.N (not (eqb g.row.LOSSLESS 0))) (2 ^ g.row.N) c.args.block.now)
 job g c =
     rw (c.side-n0.ensures.0, c.column_transform-transform.ensures)
-    (columns_job (column_pass c.args.tx_type g.row.LOSSLESS) g.row.N (rounding g.row.N g.row.LOSSLESS) c.args.block.now c.requires.0.least c.requires.0.most (column_valid g.row.N c.args.tx_type g.row.LOSSLESS c.requires.0) c.requires.1 c.requires.2)
+    (columns_job (column_pass c.args.tx_type (not (eqb g.row.LOSSLESS 0))) g.row.N (rounding g.row.N (not (eqb g.row.LOSSLESS 0))) c.args.block.now c.requires.0.least c.requires.0.most (column_valid g.row.N c.args.tx_type (not (eqb g.row.LOSSLESS 0)) c.requires.0) c.requires.1 c.requires.2)
 
 pub load-requires : goal.load-requires
 load-requires g c =
@@ -27,7 +29,7 @@ load-requires g c =
 
 pub line-requires : goal.line-requires
 line-requires g c =
-    (rw c.column_transform-transform.ensures (column_wht c.args.tx_type g.row.LOSSLESS), valid_sized 0 _ _ (omega arith) (valid g c.before.before.before.before.before), turn_safe (job g c.before.before.before.before.before) c.loop-j.invariant c.loop-j-test.true c.load.ensures)
+    (rw c.column_transform-transform.ensures (column_wht c.args.tx_type (not (eqb g.row.LOSSLESS 0))), valid_sized 0 _ _ (omega arith) (valid g c.before.before.before.before.before), turn_safe (job g c.before.before.before.before.before) c.loop-j.invariant c.loop-j-test.true c.load.ensures)
 
 pub store_column-requires : goal.store_column-requires
 store_column-requires g c =

@@ -1,3 +1,5 @@
+use mathlib.Core.Bool.{not}
+use lib.Dec.{eqb}
 use mathlib.Core.Path.{◌∙◌}
 use native.Mathlib.Omega.{arith}
 use Rattle.blocks.specs.Inverse.{row_pass}
@@ -9,9 +11,9 @@ use Rattle.small_passes.proofs.untested.Goals as goal
 
 pub columns-requires : goal.columns-requires
 columns-requires g c =
-    let q = small c.args.tx_type g.row.LOSSLESS in
-    let r = after_rows (row_pass c.args.tx_type g.row.LOSSLESS) 2 q.least q.most (row_valid 2 c.args.tx_type g.row.LOSSLESS q) _ _ c.requires.0 c.requires.1 c.all_rows.ensures in
+    let q = small c.args.tx_type (not (eqb g.row.LOSSLESS 0)) in
+    let r = after_rows (row_pass c.args.tx_type (not (eqb g.row.LOSSLESS 0))) 2 q.least q.most (row_valid 2 c.args.tx_type (not (eqb g.row.LOSSLESS 0)) q) _ _ c.requires.0 c.requires.1 c.all_rows.ensures in
     (q, r.0, r.1)
 
 pub returns : goal.returns
-returns g c = both_passes 2 c.args.tx_type g.row.LOSSLESS c.args.block.now _ c.all_rows.ensures c.columns.ensures
+returns g c = both_passes 2 c.args.tx_type (not (eqb g.row.LOSSLESS 0)) c.args.block.now _ c.all_rows.ensures c.columns.ensures
