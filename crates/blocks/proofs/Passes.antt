@@ -18,14 +18,16 @@ use Rattle.adst.proofs.Adst.{adst_stays, adst_zeros}
 use Rattle.adst.proofs.Ranges.{adst_row, adst_column}
 use Rattle.wht.proofs.Wht.{wht_stays, wht_zeros}
 use Rattle.wht.proofs.Ranges.{wht_row_lem, wht_column}
-use Rattle.blocks.specs.Inner.{FirstWithin, Possible, Safe}
+pub use Rattle.blocks.specs.Inner.{Valid}
+use Rattle.blocks.specs.Inner.{FirstWithin, Possible, Safe, Sized}
+use Rattle.blocks.specs.Kind.{is_wht}
 use Rattle.blocks.specs.Inverse.{Pass, Dct, Adst, Wht, apply, lossy, row_pass, column_pass}
 
--- a transform of 2^n numbers that there is; the WHT at the pass's shift
-abbrev pub Valid : ℕ → Pass → ℕ → Type 0
-Valid shift Dct n = (2 ≤ n) × (n ≤ 5)
-Valid shift Adst n = (2 ≤ n) × (n ≤ 4)
-Valid shift (Wht k) n = (n ≡ 2) × (k ≡ shift)
+-- what is Valid at a shift of at most 2 is Sized
+pub valid_sized : (shift : ℕ) (p : Pass) (n : ℕ) → shift ≤ 2 → Valid shift p n → Sized p n
+valid_sized shift Dct n s v = v
+valid_sized shift Adst n s v = v
+valid_sized shift (Wht k) n s v = (v.0, omega (arith, v.1))
 
 -- ---- the same range in two forms
 pub first_each : {m n : ℕ} {t : List ℤ} → FirstWithin m n t → EachWithin (replicate n m) t
@@ -82,6 +84,19 @@ row_valid n tx_type false h = lossy_valid 2 (eqb tx_type 0 || eqb tx_type 1) n h
 pub column_valid : (n tx_type : ℕ) (lossless : Bool) → Possible n tx_type lossless → Valid 0 (column_pass tx_type lossless) n
 column_valid n tx_type true h = (h.small refl, refl)
 column_valid n tx_type false h = lossy_valid 0 (eqb tx_type 0 || eqb tx_type 2) n h.least h.most (λ e. rw (h.large refl e))
+
+-- the passes of a lossless block are the WHT, and those of another are not
+lossy_wht : (b : Bool) → is_wht (lossy b) ≡ false
+lossy_wht true = refl
+lossy_wht false = refl
+
+pub row_wht : (tx_type : ℕ) (lossless : Bool) → is_wht (row_pass tx_type lossless) ≡ lossless
+row_wht tx_type true = refl
+row_wht tx_type false = lossy_wht (eqb tx_type 0 || eqb tx_type 1)
+
+pub column_wht : (tx_type : ℕ) (lossless : Bool) → is_wht (column_pass tx_type lossless) ≡ lossless
+column_wht tx_type true = refl
+column_wht tx_type false = lossy_wht (eqb tx_type 0 || eqb tx_type 2)
 
 -- where it is the ADST, n is at most 4
 pub adst_side : (shift k n : ℕ) (lossless use_dct : Bool) → Valid shift (cond lossless (Wht k) (lossy use_dct)) n → lossless ≡ false → use_dct ≡ false → n ≤ 4

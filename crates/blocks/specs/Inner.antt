@@ -34,6 +34,18 @@ pub record Possible (n tx_type : ℕ) (lossless : Bool) : Type 0 where
   pub large : lossless ≡ false → n ≡ 5 → tx_type ≡ 0
   pub small : lossless ≡ true → n ≡ 2
 
+-- a transform of 2^n numbers that there is; the WHT at the pass's shift
+abbrev pub Valid : ℕ → Pass → ℕ → Type 0
+Valid shift Dct n = (2 ≤ n) × (n ≤ 5)
+Valid shift Adst n = (2 ≤ n) × (n ≤ 4)
+Valid shift (Wht k) n = (n ≡ 2) × (k ≡ shift)
+
+-- a transform of 2^n numbers, whichever the pass
+abbrev pub Sized : Pass → ℕ → Type 0
+Sized Dct n = (2 ≤ n) × (n ≤ 5)
+Sized Adst n = (2 ≤ n) × (n ≤ 4)
+Sized (Wht shift) n = (n ≡ 2) × (shift ≤ 2)
+
 -- every step of the transform is within its range
 unfoldable pub Safe : Pass → ℕ → List ℤ → Type 0
 Safe Dct n t = Ok step (Fine (2 ^ 46)) (dct_row n) t

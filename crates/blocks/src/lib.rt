@@ -3,9 +3,19 @@
 ghost use Rattle.std.specs.Prelude.{◌≡◌, ◌||◌, ℕ, ◌+◌, ◌*◌, ◌^◌, ◌≤◌, ◌<◌, eqb, pos, nat_abs, length, get_or};
 ghost use Rattle.whole.specs.Lists.{fill};
 ghost use Rattle.whole.specs.Round.{Round2};
+ghost use Rattle.answers.specs.Sizes.{side};
 ghost use Rattle.blocks.specs.Block.{live};
 ghost use Rattle.blocks.specs.Inner.{set_line, FirstWithin};
-ghost use Rattle.blocks.specs.Inverse.{bits};
+ghost use Rattle.blocks.specs.Inverse.{lossy, row_pass, column_pass, bits, rounding};
+ghost use Rattle.blocks.specs.Kind.{pass_of};
+
+// The transform of the lines of a pass; the WHT at a shift.
+#[derive(Clone, Copy)]
+pub enum Transform {
+    Dct,
+    Adst,
+    Wht(u32),
+}
 
 // The n numbers of s at start, start + step, .. into the first places of t.
 pub fn load(t: &mut [i64; 32], s: &[i64], start: usize, step: usize, n: usize)
@@ -123,22 +133,61 @@ pub fn rounding_bits(n: u32) -> u32
     }
 }
 
+// Column j of a block of 2^n rows from t: rounded, unless lossless.
+pub fn store_column(s: &mut [i64], t: &[i64; 32], j: usize, n: u32, lossless: bool)
+    requires { (2 ≤ n) × (n ≤ 5) × ((k : ℕ) → k < side n → j + k * side n < length s.old) × FirstWithin (2 ^ 62) (side n) t.now }
+    ensures { s.new ≡ set_line (rounding n lossless) j (side n) (side n) t.now s.old }
+{
+    let n0 = answers::side(n);
+    if lossless {
+        store(s, t, j, n0, n0);
+    } else {
+        store_rounded(s, t, j, n0, n0, rounding_bits(n));
+    }
+}
+
 // Types 0 and 1 have DCT rows.
 pub fn row_dct(tx_type: u8) -> bool
     ensures { result ≡ eqb tx_type 0 || eqb tx_type 1 }
 {
-    if tx_type == 0 {
-        return true;
-    }
-    tx_type == 1
+    tx_type == 0 || tx_type == 1
 }
 
 // Types 0 and 2 have DCT columns.
 pub fn column_dct(tx_type: u8) -> bool
     ensures { result ≡ eqb tx_type 0 || eqb tx_type 2 }
 {
-    if tx_type == 0 {
-        return true;
+    tx_type == 0 || tx_type == 2
+}
+
+fn dct_or_adst(use_dct: bool) -> Transform
+    ensures { pass_of result ≡ lossy use_dct }
+{
+    if use_dct {
+        Transform::Dct
+    } else {
+        Transform::Adst
     }
-    tx_type == 2
+}
+
+// The transform of the rows of a block: lossless is the WHT at shift 2.
+pub fn row_transform(tx_type: u8, lossless: bool) -> Transform
+    ensures { pass_of result ≡ row_pass tx_type lossless }
+{
+    if lossless {
+        Transform::Wht(2)
+    } else {
+        dct_or_adst(row_dct(tx_type))
+    }
+}
+
+// The transform of its columns: lossless is the WHT at shift 0.
+pub fn column_transform(tx_type: u8, lossless: bool) -> Transform
+    ensures { pass_of result ≡ column_pass tx_type lossless }
+{
+    if lossless {
+        Transform::Wht(0)
+    } else {
+        dct_or_adst(column_dct(tx_type))
+    }
 }

@@ -29,10 +29,7 @@ pub fn within(block: &[i64], count: usize) -> bool
     requires { count ≤ length block.now }
     ensures { result ≡ not (any_beyond COEF_LIMIT count block.now) }
 {
-    if surely_within(block, count) {
-        return true;
-    }
-    !answers::any_beyond(block, count, answers::COEF_LIMIT)
+    surely_within(block, count) || !answers::any_beyond(block, count, answers::COEF_LIMIT)
 }
 
 // Whether the type is 0 and only place 0 of the `count` numbers is live.
@@ -40,10 +37,7 @@ pub fn only_dc(block: &[i64], count: usize, tx_type: u8) -> bool
     requires { (2 ≤ count) × (count ≤ length block.now) }
     ensures { result ≡ only_dc count tx_type block.now }
 {
-    if tx_type != 0 {
-        return false;
-    }
-    !blocks::any_live_first(block, 1, count - 1)
+    tx_type == 0 && !blocks::any_live_first(block, 1, count - 1)
 }
 
 // The one number that place 0 gives everywhere; 11585 is cos64(16).

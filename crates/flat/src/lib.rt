@@ -101,13 +101,14 @@ pub fn fneg(t: &mut [i64; 32], i: usize)
     t[i] = -t[i];
 }
 
-// t[i] = copy_t[from[at + i]] for i below n0. The table is lent: it folds away where the caller has it whole.
-pub fn reorder(t: &mut [i64; 32], from: &[usize], at: usize, n0: usize)
-    requires { (n0 ≤ 32) × (at + n0 ≤ length from.now) × ((i : ℕ) → i < n0 → get_or from.now (at + i) 0 < 32) }
-    ensures { t.new ≡ step (Move n0 (λ i. get_or from.now (at + i) 0)) t.old }
+// t[i] = copy_t[from[i]] for each place of the table, which is lent: it folds away where the caller has it whole. With its length a const
+// parameter the loop would unroll before that.
+pub fn reorder(t: &mut [i64; 32], from: &[usize])
+    requires { (length from.now ≤ 32) × ((i : ℕ) → i < length from.now → get_or from.now i 0 < 32) }
+    ensures { t.new ≡ step (Move (length from.now) (λ i. get_or from.now i 0)) t.old }
 {
     let copy_t = *t;
-    for i in 0..n0 {
-        t[i] = copy_t[from[at + i]];
+    for i in 0..from.len() {
+        t[i] = copy_t[from[i]];
     }
 }

@@ -1,19 +1,20 @@
 // The fast inverse ADST: straight-line code over literal places.
 #![tactic(auto)]
 
-ghost use Rattle.std.specs.Prelude.{◌≡◌, ◌^◌};
+ghost use Rattle.std.specs.Prelude.{◌≡◌, ◌^◌, ◌≤◌};
 ghost use Rattle.whole.specs.Inner.{Ok};
 ghost use Rattle.steps.specs.Step.{Move, step};
 ghost use Rattle.steps.specs.Inner.{Fine2};
 ghost use Rattle.steps.specs.Step2.{step2, fresh};
 ghost use Rattle.adst.specs.Adst.{adst_in, adst_out, adst_steps, adst};
 
-// The permutation into ADST8. It and the next three are functions of their own, so that the loop unrolls before it meets the calls around it.
+// The permutation into ADST8. It and the next three differ in their tables alone, and stay apart: called with its own table each loop unrolls
+// before it meets the calls around it.
 fn input8(t: &mut [i64; 32])
     ensures { t.new ≡ step (Move 8 (adst_in 3)) t.old }
 {
     let from = [7, 0, 5, 2, 3, 4, 1, 6];
-    flat::reorder(t, &from, 0, 8);
+    flat::reorder(t, &from);
 }
 
 // The permutation out of ADST8.
@@ -21,7 +22,7 @@ fn output8(t: &mut [i64; 32])
     ensures { t.new ≡ step (Move 8 (adst_out 3)) t.old }
 {
     let from = [0, 4, 6, 2, 3, 7, 5, 1];
-    flat::reorder(t, &from, 0, 8);
+    flat::reorder(t, &from);
 }
 
 // The permutation into ADST16.
@@ -29,7 +30,7 @@ fn input16(t: &mut [i64; 32])
     ensures { t.new ≡ step (Move 16 (adst_in 4)) t.old }
 {
     let from = [15, 0, 13, 2, 11, 4, 9, 6, 7, 8, 5, 10, 3, 12, 1, 14];
-    flat::reorder(t, &from, 0, 16);
+    flat::reorder(t, &from);
 }
 
 // The permutation out of ADST16.
@@ -37,11 +38,11 @@ fn output16(t: &mut [i64; 32])
     ensures { t.new ≡ step (Move 16 (adst_out 4)) t.old }
 {
     let from = [0, 8, 12, 4, 6, 14, 10, 2, 3, 11, 15, 7, 5, 13, 9, 1];
-    flat::reorder(t, &from, 0, 16);
+    flat::reorder(t, &from);
 }
 
 // The inverse ADST of 4 numbers. 5283, 9929, 13377 are SINPI_1_9 to SINPI_3_9; SINPI_4_9 is the sum of the first two, so six products do for eight.
-pub fn iadst_fast4(t: &mut [i64; 32])
+fn iadst_fast4(t: &mut [i64; 32])
     requires { Ok step2 (Fine2 (2 ^ 46)) (adst_steps 2) (fresh t.old) }
     ensures { t.new ≡ adst 2 t.old }
 {
@@ -61,7 +62,7 @@ pub fn iadst_fast4(t: &mut [i64; 32])
 }
 
 // The inverse ADST of 8 numbers.
-pub fn iadst_fast8(t: &mut [i64; 32])
+fn iadst_fast8(t: &mut [i64; 32])
     requires { Ok step2 (Fine2 (2 ^ 46)) (adst_steps 3) (fresh t.old) }
     ensures { t.new ≡ adst 3 t.old }
 {
@@ -91,7 +92,7 @@ pub fn iadst_fast8(t: &mut [i64; 32])
 }
 
 // The inverse ADST of 16 numbers.
-pub fn iadst_fast16(t: &mut [i64; 32])
+fn iadst_fast16(t: &mut [i64; 32])
     requires { Ok step2 (Fine2 (2 ^ 46)) (adst_steps 4) (fresh t.old) }
     ensures { t.new ≡ adst 4 t.old }
 {
@@ -146,4 +147,16 @@ pub fn iadst_fast16(t: &mut [i64; 32])
     flat::fneg(t, 3);
     flat::fneg(t, 13);
     flat::fneg(t, 15);
+}
+
+// The inverse ADST of 2^N numbers.
+pub fn iadst_fast<const N: u32>(t: &mut [i64; 32])
+    requires { (2 ≤ N) × (N ≤ 4) × Ok step2 (Fine2 (2 ^ 46)) (adst_steps N) (fresh t.old) }
+    ensures { t.new ≡ adst N t.old }
+{
+    match N {
+        2 => iadst_fast4(t),
+        3 => iadst_fast8(t),
+        _ => iadst_fast16(t),
+    }
 }

@@ -1,7 +1,7 @@
 // The fast inverse DCT: straight-line code over literal places.
 #![tactic(auto)]
 
-ghost use Rattle.std.specs.Prelude.{◌≡◌, ◌^◌};
+ghost use Rattle.std.specs.Prelude.{◌≡◌, ◌^◌, ◌≤◌};
 ghost use Rattle.whole.specs.Steps.{run};
 ghost use Rattle.whole.specs.Inner.{Ok};
 ghost use Rattle.steps.specs.Step.{step};
@@ -132,48 +132,21 @@ fn dct_level5(t: &mut [i64; 32])
     flat::fh(t, 15, 16, false);
 }
 
-// The inverse DCT of 4 numbers: the permutation, B(0, 1, 16, 1), then steps 2 to 7 for each size up to this.
-pub fn idct_fast2(t: &mut [i64; 32])
-    requires { Ok step (Fine (2 ^ 46)) (dct_row 2) t.old }
-    ensures { t.new ≡ dct 2 t.old }
+// The inverse DCT of 2^N numbers: the permutation, B(0, 1, 16, 1), then steps 2 to 7 for each size up to this.
+pub fn idct_fast<const N: u32>(t: &mut [i64; 32])
+    requires { (2 ≤ N) × (N ≤ 5) × Ok step (Fine (2 ^ 46)) (dct_row N) t.old }
+    ensures { t.new ≡ dct N t.old }
 {
-    flat::permute(t, 2, 2, 2);
+    flat::permute(t, N, 1 << (N - N / 2), 1 << (N / 2));
     flat::fb(t, 0, 1, 16, true);
     dct_level2(t);
-}
-
-// The inverse DCT of 8 numbers: the permutation, B(0, 1, 16, 1), then steps 2 to 7 for each size up to this.
-pub fn idct_fast3(t: &mut [i64; 32])
-    requires { Ok step (Fine (2 ^ 46)) (dct_row 3) t.old }
-    ensures { t.new ≡ dct 3 t.old }
-{
-    flat::permute(t, 3, 2, 4);
-    flat::fb(t, 0, 1, 16, true);
-    dct_level2(t);
-    dct_level3(t);
-}
-
-// The inverse DCT of 16 numbers: the permutation, B(0, 1, 16, 1), then steps 2 to 7 for each size up to this.
-pub fn idct_fast4(t: &mut [i64; 32])
-    requires { Ok step (Fine (2 ^ 46)) (dct_row 4) t.old }
-    ensures { t.new ≡ dct 4 t.old }
-{
-    flat::permute(t, 4, 4, 4);
-    flat::fb(t, 0, 1, 16, true);
-    dct_level2(t);
-    dct_level3(t);
-    dct_level4(t);
-}
-
-// The inverse DCT of 32 numbers: the permutation, B(0, 1, 16, 1), then steps 2 to 7 for each size up to this.
-pub fn idct_fast5(t: &mut [i64; 32])
-    requires { Ok step (Fine (2 ^ 46)) (dct_row 5) t.old }
-    ensures { t.new ≡ dct 5 t.old }
-{
-    flat::permute(t, 5, 8, 4);
-    flat::fb(t, 0, 1, 16, true);
-    dct_level2(t);
-    dct_level3(t);
-    dct_level4(t);
-    dct_level5(t);
+    if N >= 3 {
+        dct_level3(t);
+    }
+    if N >= 4 {
+        dct_level4(t);
+    }
+    if N >= 5 {
+        dct_level5(t);
+    }
 }

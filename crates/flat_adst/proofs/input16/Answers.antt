@@ -1,7 +1,9 @@
 -- `flat_adst::input16` meets its contract: the table is the rule, by computation.
 use mathlib.Core.List.{List, [], ◌∷◌}
-use Prim.Native.Nat.{ℕ}
-use lib.Dec.{lit≤}
+use mathlib.Core.Path.{◌≡◌}
+use Prim.Native.Nat.{ℕ, ◌+◌}
+use native.Mathlib.Omega.{arith}
+use lib.Dec.{lit≤, lit<}
 use Rattle.whole.specs.Lists.{fill, move}
 use Rattle.steps.specs.Step.{step}
 use Rattle.adst.specs.Adst.{adst_in}
@@ -16,4 +18,4 @@ unfolding step move fill adst_in
 returns c = c.reorder.ensures
 
 pub reorder-requires : goal.reorder-requires
-reorder-requires c = (lit≤ tt, lit≤ tt, places table 0 16 tt)
+reorder-requires c = (lit≤ tt, λ i h. let e : 0 + i ≡ i = omega arith in rw e at (places table 0 16 tt i h))

@@ -12,23 +12,26 @@ is4 c = c.in-4.is
 is5 : (c : In_default) → c.args.n ≡ 5
 is5 c = omega arith
 
-type5 : (c : In_default) → c.args.tx_type ≡ 0
-type5 c = c.requires.1.large refl (is5 c)
+pub by_summary-requires : goal.by_summary-requires
+by_summary-requires c =
+    let e = is3 c.before in
+    (rw e at c.requires.1, rw e at c.requires.2, rw e at c.requires.3)
 
-pub passes3-requires : goal.passes3-requires
-passes3-requires c = (rw (is3 c.before) at c.requires.2, rw (is3 c.before) at c.requires.3)
+pub by_summary-requires-in-4 : goal.by_summary-requires-in-4
+by_summary-requires-in-4 c =
+    let e = is4 c.before in
+    (rw e at c.requires.1, rw e at c.requires.2, rw e at c.requires.3)
+
+pub by_summary-requires-in_default : goal.by_summary-requires-in_default
+by_summary-requires-in_default c =
+    let e = is5 c.before in
+    (rw e at c.requires.1, rw e at c.requires.2, rw e at c.requires.3)
 
 pub returns-in-3 : goal.returns-in-3
-returns-in-3 c = rw (is3 c.before.before.before) c.passes3.ensures
-
-pub passes4-requires : goal.passes4-requires
-passes4-requires c = (rw (is4 c.before) at c.requires.2, rw (is4 c.before) at c.requires.3)
+returns-in-3 c = rw (is3 c.before.before.before) c.by_summary.ensures
 
 pub returns-in-4 : goal.returns-in-4
-returns-in-4 c = rw (is4 c.before.before.before) c.passes4.ensures
-
-pub passes5-requires : goal.passes5-requires
-passes5-requires c = (rw (is5 c.before) at c.requires.2, rw (is5 c.before) at c.requires.3)
+returns-in-4 c = rw (is4 c.before.before.before) c.by_summary-in-4.ensures
 
 pub returns-in_default : goal.returns-in_default
-returns-in_default c = rw (is5 c.before.before.before, type5 c.before.before.before) c.passes5.ensures
+returns-in_default c = rw (is5 c.before.before.before) c.by_summary-in_default.ensures

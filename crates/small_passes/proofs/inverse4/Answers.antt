@@ -1,8 +1,9 @@
 use mathlib.Core.Path.{◌≡◌, sym, ◌∙◌}
-use mathlib.Core.Bool.{true}
+use mathlib.Core.Bool.{true, false}
 use native.Mathlib.Omega.{arith}
 use Rattle.blocks.specs.Block.{only_dc}
 use Rattle.dc.proofs.Alone.{alone, dc_written}
+use Rattle.small_passes.proofs.Small.{small}
 use Rattle.small_passes.proofs.inverse4.Goals as goal
 use Rattle.small_passes.proofs.inverse4.Goals.{Then-only_dc}
 
@@ -21,7 +22,10 @@ returns-then-only_dc c =
       counted = rw (only c.before.before.before.before) c.no_rows.ensures;
     }
 
+pub by_summary-requires : goal.by_summary-requires
+by_summary-requires c = (small c.args.tx_type false, c.requires.0, c.requires.1)
+
 pub returns : goal.returns
 returns c =
-    let m = c.lossy_by_summary.ensures in
+    let m = c.by_summary.ensures in
     record { written = m.written; counted = rw (sym c.only_dc.ensures ∙ c.if-only_dc.false) m.counted }
