@@ -17,6 +17,7 @@ ghost use Rattle.reconstruct.specs.Reconstruct.{largest, added, Reconstructed};
 use answers::{Answer, side};
 use plane::Plane;
 use quant::{AcQuant, DcQuant};
+use tokens::Coding;
 
 // The largest sample.
 fn largest(depth: u32) -> u16
@@ -77,18 +78,15 @@ fn add_4(
     x: usize,
     y: usize,
     tokens: &[i64],
-    dc_quant: DcQuant,
-    ac_quant: AcQuant,
-    tx_type: u8,
-    lossless: bool,
+    coding: Coding,
     top: u16,
 )
-    requires { SamplesOf plane samples.old × Accepted 0 dc_quant ac_quant tx_type lossless tokens.now }
-    ensures { samples.new ≡ added plane top x y 0 dc_quant ac_quant tx_type lossless tokens.now samples.old }
+    requires { SamplesOf plane samples.old × Accepted 0 coding.dc_quant coding.ac_quant coding.tx_type coding.lossless tokens.now }
+    ensures { samples.new ≡ added plane top x y 0 coding.dc_quant coding.ac_quant coding.tx_type coding.lossless tokens.now samples.old }
 {
     let mut block = [0i64; 1024];
-    tokens::dequantize(&mut block, tokens, 16, 0, dc_quant, ac_quant);
-    passes_4(&mut block, tx_type, lossless);
+    tokens::dequantize(&mut block, tokens, 16, Coding { size: 0, ..coding });
+    passes_4(&mut block, coding.tx_type, coding.lossless);
     add_back4(samples, plane, x, y, &block, top);
 }
 
@@ -98,20 +96,17 @@ fn add_wide(
     plane: Plane,
     x: usize,
     y: usize,
-    size: u32,
     tokens: &[i64],
-    dc_quant: DcQuant,
-    ac_quant: AcQuant,
-    tx_type: u8,
+    coding: Coding,
     top: u16,
 )
-    requires { SamplesOf plane samples.old × Accepted size dc_quant ac_quant tx_type false tokens.now × (1 ≤ size) }
-    ensures { samples.new ≡ added plane top x y size dc_quant ac_quant tx_type false tokens.now samples.old }
+    requires { SamplesOf plane samples.old × Accepted coding.size coding.dc_quant coding.ac_quant coding.tx_type false tokens.now × (1 ≤ coding.size) }
+    ensures { samples.new ≡ added plane top x y coding.size coding.dc_quant coding.ac_quant coding.tx_type false tokens.now samples.old }
 {
     let mut block = [0i64; 1024];
-    tokens::dequantize(&mut block, tokens, tokens.len(), size, dc_quant, ac_quant);
-    passes::both_passes(&mut block, size + 2, tx_type);
-    let n0 = side(size + 2);
+    tokens::dequantize(&mut block, tokens, tokens.len(), coding);
+    passes::both_passes(&mut block, coding.size + 2, coding.tx_type);
+    let n0 = side(coding.size + 2);
     plane::add_back(samples, plane, x, y, &block, n0, n0, top);
 }
 
@@ -121,28 +116,19 @@ fn add_checked(
     plane: Plane,
     x: usize,
     y: usize,
-    size: u32,
     tokens: &[i64],
-    dc_quant: DcQuant,
-    ac_quant: AcQuant,
-    tx_type: u8,
-    lossless: bool,
-    bit_depth: u32,
+    coding: Coding,
 ) -> Answer
-    requires { SamplesOf plane samples.old × Sound size dc_quant ac_quant tx_type lossless bit_depth tokens.now }
-    ensures { Checked plane x y size dc_quant ac_quant tx_type lossless bit_depth tokens.now samples.old (number result) samples.new }
+    requires { SamplesOf plane samples.old × Sound coding.size coding.dc_quant coding.ac_quant coding.tx_type coding.lossless coding.depth tokens.now }
+    ensures { Checked plane x y coding.size coding.dc_quant coding.ac_quant coding.tx_type coding.lossless coding.depth tokens.now samples.old (number result) samples.new }
 {
-    tokens::check_tokens(tokens, size, dc_quant, ac_quant, bit_depth)?;
-    let top = largest(bit_depth);
-    if size == 0 {
-        add_4(
-            samples, plane, x, y, tokens, dc_quant, ac_quant, tx_type, lossless, top,
-        );
+    tokens::check_tokens(tokens, coding)?;
+    let top = largest(coding.depth);
+    if coding.size == 0 {
+        add_4(samples, plane, x, y, tokens, coding, top);
         return Ok(());
     }
-    add_wide(
-        samples, plane, x, y, size, tokens, dc_quant, ac_quant, tx_type, top,
-    );
+    add_wide(samples, plane, x, y, tokens, coding, top);
     Ok(())
 }
 
@@ -153,19 +139,23 @@ fn add_short(
     plane: Plane,
     x: usize,
     y: usize,
-    size: u32,
     n0: usize,
     tokens: &[i64],
-    dc_quant: DcQuant,
-    ac_quant: AcQuant,
-    tx_type: u8,
+    coding: Coding,
     top: u16,
 ) -> bool
-    requires { SamplesOf plane samples.old × Lent size dc_quant ac_quant tx_type tokens.now × (n0 ≡ side (size + 2)) }
-    ensures { Tried plane top x y size dc_quant ac_quant tx_type tokens.now samples.old result samples.new }
+    requires { SamplesOf plane samples.old × Lent coding.size coding.dc_quant coding.ac_quant coding.tx_type tokens.now × (n0 ≡ side (coding.size + 2)) }
+    ensures { Tried plane top x y coding.size coding.dc_quant coding.ac_quant coding.tx_type tokens.now samples.old result samples.new }
 {
     let mut z = [0i16; 1024];
-    if !residual16::residual(&mut z, tokens, size, dc_quant, ac_quant, tx_type) {
+    if !residual16::residual(
+        &mut z,
+        tokens,
+        coding.size,
+        coding.dc_quant,
+        coding.ac_quant,
+        coding.tx_type,
+    ) {
         return false;
     }
     plane16::add_back(samples, plane, x, y, &z, n0, top);
@@ -178,34 +168,27 @@ fn quick(
     plane: Plane,
     x: usize,
     y: usize,
-    size: u32,
     tokens: &[i64],
-    dc_quant: DcQuant,
-    ac_quant: AcQuant,
-    tx_type: u8,
+    coding: Coding,
     top: u16,
 ) -> bool
-    requires { SamplesOf plane samples.old × Lent size dc_quant ac_quant tx_type tokens.now }
-    ensures { Tried plane top x y size dc_quant ac_quant tx_type tokens.now samples.old result samples.new }
+    requires { SamplesOf plane samples.old × Lent coding.size coding.dc_quant coding.ac_quant coding.tx_type tokens.now }
+    ensures { Tried plane top x y coding.size coding.dc_quant coding.ac_quant coding.tx_type tokens.now samples.old result samples.new }
 {
-    if size == 1 {
+    if coding.size == 1 {
         return add_short(
-            samples, plane, x, y, 1, 8, tokens, dc_quant, ac_quant, tx_type, top,
+            samples,
+            plane,
+            x,
+            y,
+            8,
+            tokens,
+            Coding { size: 1, ..coding },
+            top,
         );
     }
-    add_short(
-        samples,
-        plane,
-        x,
-        y,
-        size,
-        side(size + 2),
-        tokens,
-        dc_quant,
-        ac_quant,
-        tx_type,
-        top,
-    )
+    let n0 = side(coding.size + 2);
+    add_short(samples, plane, x, y, n0, tokens, coding, top)
 }
 
 // The block's residual added to the samples at (x, y), as far as the plane has them. Refused, nothing is changed.
@@ -224,37 +207,31 @@ pub fn reconstruct_block(
 ) -> Answer
     ensures { Reconstructed (record { samples = samples.entry.now; plane = plane; x = x; y = y; size = tx_sz; tokens = tokens.now; dc = dc_quant; ac = ac_quant; tx_type = tx_type; lossless = lossless; depth = bit_depth }) result samples.exit.now }
 {
-    tokens::check(
-        samples.len(),
-        plane,
-        tx_sz,
-        tokens.len(),
+    let coding = Coding {
+        size: tx_sz,
         dc_quant,
         ac_quant,
         tx_type,
         lossless,
-        bit_depth,
-    )?;
+        depth: bit_depth,
+    };
+    tokens::check(samples.len(), plane, tokens.len(), coding)?;
     if tx_sz == 0 {
-        return add_checked(
-            samples, plane, x, y, 0, tokens, dc_quant, ac_quant, tx_type, lossless, bit_depth,
-        );
+        return add_checked(samples, plane, x, y, tokens, Coding { size: 0, ..coding });
     }
-    if quick(
+    let top = largest(bit_depth);
+    if quick(samples, plane, x, y, tokens, coding, top) {
+        return Ok(());
+    }
+    add_checked(
         samples,
         plane,
         x,
         y,
-        tx_sz,
         tokens,
-        dc_quant,
-        ac_quant,
-        tx_type,
-        largest(bit_depth),
-    ) {
-        return Ok(());
-    }
-    add_checked(
-        samples, plane, x, y, tx_sz, tokens, dc_quant, ac_quant, tx_type, false, bit_depth,
+        Coding {
+            lossless: false,
+            ..coding
+        },
     )
 }

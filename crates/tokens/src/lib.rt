@@ -18,6 +18,17 @@ use answers::{
 use plane::Plane;
 use quant::{AcQuant, DcQuant, bad_quantizers, dequant, max_codeable_coef, quantizer_at};
 
+// How the tokens of a block are coded, as a call has it.
+#[derive(Clone, Copy)]
+pub struct Coding {
+    pub size: u32,
+    pub dc_quant: DcQuant,
+    pub ac_quant: AcQuant,
+    pub tx_type: u8,
+    pub lossless: bool,
+    pub depth: u32,
+}
+
 // A stride below the width, a stride or a side above its limit, or samples not exactly stride × height. A width above the limit is one of the first two.
 fn bad_plane(samples: usize, plane: Plane) -> bool
     ensures { result ≡ bad_plane samples plane }
@@ -38,35 +49,25 @@ fn bad_plane(samples: usize, plane: Plane) -> bool
 }
 
 // The answer as far as it needs no token and no sample.
-pub fn check(
-    samples: usize,
-    plane: Plane,
-    size: u32,
-    tokens: usize,
-    dc_quant: DcQuant,
-    ac_quant: AcQuant,
-    tx_type: u8,
-    lossless: bool,
-    depth: u32,
-) -> Answer
-    ensures { number result ≡ shape_of samples plane size tokens dc_quant ac_quant tx_type lossless depth }
+pub fn check(samples: usize, plane: Plane, tokens: usize, coding: Coding) -> Answer
+    ensures { number result ≡ shape_of samples plane coding.size tokens coding.dc_quant coding.ac_quant coding.tx_type coding.lossless coding.depth }
 {
-    if bad_depth(depth) {
+    if bad_depth(coding.depth) {
         return Err(Refusal::Depth);
     }
-    if bad_size(size) {
+    if bad_size(coding.size) {
         return Err(Refusal::Size);
     }
-    if bad_lossless(lossless, size) {
+    if bad_lossless(coding.lossless, coding.size) {
         return Err(Refusal::LosslessSize);
     }
-    if bad_tx_type(lossless, size, tx_type) {
+    if bad_tx_type(coding.lossless, coding.size, coding.tx_type) {
         return Err(Refusal::TxType);
     }
-    if bad_quantizers(dc_quant, ac_quant) {
+    if bad_quantizers(coding.dc_quant, coding.ac_quant) {
         return Err(Refusal::Quantizer);
     }
-    if tokens != area(size + 2) {
+    if tokens != area(coding.size + 2) {
         return Err(Refusal::Length);
     }
     if bad_plane(samples, plane) {
@@ -137,25 +138,19 @@ fn all_small(tokens: &[i64]) -> bool
 }
 
 // The answer of the tokens: an 8 anywhere before any 9.
-pub fn check_tokens(
-    tokens: &[i64],
-    size: u32,
-    dc_quant: DcQuant,
-    ac_quant: AcQuant,
-    depth: u32,
-) -> Answer
-    requires { (bad_depth depth ≡ false) × (bad_quantizers dc_quant ac_quant ≡ false) }
-    ensures { number result ≡ token_answer size dc_quant ac_quant depth tokens.now }
+pub fn check_tokens(tokens: &[i64], coding: Coding) -> Answer
+    requires { (bad_depth coding.depth ≡ false) × (bad_quantizers coding.dc_quant coding.ac_quant ≡ false) }
+    ensures { number result ≡ token_answer coding.size coding.dc_quant coding.ac_quant coding.depth tokens.now }
 {
     if all_small(tokens) {
         return Ok(());
     }
-    let most = max_codeable_coef(depth) as u64;
+    let most = max_codeable_coef(coding.depth) as u64;
     if some_above(
         tokens,
         tokens.len(),
-        DcBound(largest_token(dc_quant.0, size, most)),
-        AcBound(largest_token(ac_quant.0, size, most)),
+        DcBound(largest_token(coding.dc_quant.0, coding.size, most)),
+        AcBound(largest_token(coding.ac_quant.0, coding.size, most)),
     ) {
         if any_beyond(tokens, tokens.len(), most) {
             return Err(Refusal::Token);
@@ -166,18 +161,12 @@ pub fn check_tokens(
 }
 
 // The coefficients of the first `count` tokens into the front of the block.
-pub fn dequantize(
-    block: &mut [i64; 1024],
-    tokens: &[i64],
-    count: usize,
-    size: u32,
-    dc_quant: DcQuant,
-    ac_quant: AcQuant,
-)
-    requires { (count ≤ 1024) × (count ≤ length tokens.now) × ((k : ℕ) → k < count → nat_abs (get_or tokens.now k (pos 0)) ≤ codeable 12) × (bad_quantizers dc_quant ac_quant ≡ false) }
-    ensures { block.new ≡ fill count (λ k. dequant size (quantizer_at dc_quant ac_quant k) (get_or tokens.now k (pos 0))) block.old }
+pub fn dequantize(block: &mut [i64; 1024], tokens: &[i64], count: usize, coding: Coding)
+    requires { (count ≤ 1024) × (count ≤ length tokens.now) × ((k : ℕ) → k < count → nat_abs (get_or tokens.now k (pos 0)) ≤ codeable 12) × (bad_quantizers coding.dc_quant coding.ac_quant ≡ false) }
+    ensures { block.new ≡ fill count (λ k. dequant coding.size (quantizer_at coding.dc_quant coding.ac_quant k) (get_or tokens.now k (pos 0))) block.old }
 {
     for k in 0..count {
-        block[k] = dequant(quantizer_at(k, dc_quant, ac_quant), tokens[k], size);
+        let quantizer = quantizer_at(k, coding.dc_quant, coding.ac_quant);
+        block[k] = dequant(quantizer, tokens[k], coding.size);
     }
 }

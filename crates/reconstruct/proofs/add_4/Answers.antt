@@ -20,14 +20,14 @@ abbrev After-passes_4 : Type 0
 After-passes_4 = lts.After-passes_4 tie.the-claims reads.Pre reads.Post
 
 -- the block after dequantizing
-coefs : (c : After-dequantize) → let a = c.args in c.dequantize.new.block ≡ in_front 16 0 a.dc_quant a.ac_quant a.tokens.now
+coefs : (c : After-dequantize) → let a = c.args in c.dequantize.new.block ≡ in_front 16 0 a.coding.dc_quant a.coding.ac_quant a.tokens.now
 coefs c =
     let a = c.args in
-    in_front_lem 16 0 a.dc_quant a.ac_quant a.tokens.now _ _ refl c.dequantize.ensures
+    in_front_lem 16 0 a.coding.dc_quant a.coding.ac_quant a.tokens.now _ _ refl c.dequantize.ensures
 
 -- and after the transform
 residuals : (c : After-passes_4) → let a = c.args in
-    c.passes_4.new.block ≡ inverse2d 2 a.tx_type a.lossless (in_front 16 0 a.dc_quant a.ac_quant a.tokens.now)
+    c.passes_4.new.block ≡ inverse2d 2 a.coding.tx_type a.coding.lossless (in_front 16 0 a.coding.dc_quant a.coding.ac_quant a.tokens.now)
 residuals c = rw (coefs c.before.before) at c.passes_4.ensures
 
 pub dequantize-requires : goal.dequantize-requires
@@ -39,7 +39,7 @@ pub passes_4-requires : goal.passes_4-requires
 passes_4-requires c =
     let a = c.args in
     rw (coefs c.before.before)
-    (block_length 0 a.dc_quant a.ac_quant a.tx_type a.lossless a.tokens.now c.requires.1, block_within 0 a.dc_quant a.ac_quant a.tx_type a.lossless a.tokens.now c.requires.1)
+    (block_length 0 a.coding.dc_quant a.coding.ac_quant a.coding.tx_type a.coding.lossless a.tokens.now c.requires.1, block_within 0 a.coding.dc_quant a.coding.ac_quant a.coding.tx_type a.coding.lossless a.tokens.now c.requires.1)
 
 pub add_back4-requires : goal.add_back4-requires
 add_back4-requires c =
@@ -47,8 +47,8 @@ add_back4-requires c =
     let t = c.requires.1 in
     rw (residuals c.before.before) (
       c.requires.0,
-      inverse2d_length 2 a.tx_type a.lossless (in_front 16 0 a.dc_quant a.ac_quant a.tokens.now) ∙ block_length 0 a.dc_quant a.ac_quant a.tx_type a.lossless a.tokens.now t,
-      residual_within 0 a.dc_quant a.ac_quant a.tx_type a.lossless a.tokens.now t,
+      inverse2d_length 2 a.coding.tx_type a.coding.lossless (in_front 16 0 a.coding.dc_quant a.coding.ac_quant a.tokens.now) ∙ block_length 0 a.coding.dc_quant a.coding.ac_quant a.coding.tx_type a.coding.lossless a.tokens.now t,
+      residual_within 0 a.coding.dc_quant a.coding.ac_quant a.coding.tx_type a.coding.lossless a.tokens.now t,
     )
 
 pub returns : goal.returns
@@ -58,4 +58,4 @@ returns c =
     c.add_back4.ensures
     ∙ rw (residuals c.before.before.before.before.before.before)
     (same_residuals a.plane a.samples.now c.requires.0 a.top a.x a.y 4 _ _
-    (residual_at 0 a.dc_quant a.ac_quant a.tx_type a.lossless a.tokens.now c.requires.1))
+    (residual_at 0 a.coding.dc_quant a.coding.ac_quant a.coding.tx_type a.coding.lossless a.tokens.now c.requires.1))

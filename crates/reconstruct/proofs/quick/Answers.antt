@@ -3,7 +3,7 @@ use mathlib.Core.Path.{refl}
 use Rattle.reconstruct.proofs.quick.Goals as goal
 
 pub add_short-requires : goal.add_short-requires
-add_short-requires c = (c.requires.0, rw c.if-size-eq1.true at c.requires.1, refl)
+add_short-requires c = (c.requires.0, rw c.if-coding-eq1.true at c.requires.1, refl)
 
-pub returns-then-size-eq1 : goal.returns-then-size-eq1
-returns-then-size-eq1 c = rw c.if-size-eq1.true c.add_short.ensures
+pub returns-then-coding-eq1 : goal.returns-then-coding-eq1
+returns-then-coding-eq1 c = rw c.if-coding-eq1.true c.add_short.ensures

@@ -138,7 +138,7 @@ quick-requires c =
 pub returns-then-quick : goal.returns-then-quick
 returns-then-quick c =
     let u = input (goal.at.returns-then-quick c).Start in
-    let l = c.largest in
+    let l = c.largest-top in
     served u (sym c.in_ok-check.ensures) c.if-tx_sz-eq0.false (Ok tt) l.result c.quick.new.samples refl l.ensures
     (tried_yes u l.result c.quick.result c.quick.new.samples c.if-quick.true c.quick.ensures)
 
@@ -147,7 +147,7 @@ kept : (x : Else-quick) → x.quick.new.samples ≡ x.args.samples.now
 kept x =
     let a = x.args in
     let u : Input = record { samples = a.samples.now; plane = a.plane; x = a.x; y = a.y; size = a.tx_sz; tokens = a.tokens.now; dc = a.dc_quant; ac = a.ac_quant; tx_type = a.tx_type; lossless = a.lossless; depth = a.bit_depth } in
-    tried_no u x.largest.result x.quick.result x.quick.new.samples x.if-quick.false x.quick.ensures
+    tried_no u x.largest-top.result x.quick.result x.quick.new.samples x.if-quick.false x.quick.ensures
 
 pub add_checked-requires-2 : goal.add_checked-requires-2
 add_checked-requires-2 c =
@@ -160,5 +160,5 @@ returns c =
     checked u (sym c.in_ok-check.ensures) c.add_checked-2.result c.add_checked-2.new.samples
     (checked_lossy u (sym c.in_ok-check.ensures) c.if-tx_sz-eq0.false _ c.quick.new.samples _ (kept (goal.at.returns c).Else-quick) c.add_checked-2.ensures)
 
-pub largest-requires : goal.largest-requires
-largest-requires c = (shaped (input (goal.at.largest-requires c).Start) (sym c.in_ok-check.ensures)).depth_ok
+pub largest-top-requires : goal.largest-top-requires
+largest-top-requires c = (shaped (input (goal.at.largest-top-requires c).Start) (sym c.in_ok-check.ensures)).depth_ok

@@ -13,27 +13,27 @@ use Rattle.tokens.proofs.check.Goals as goal
 use Rattle.tokens.proofs.check.Goals.{After-area, Else-bad_depth, Else-bad_lossless, Else-bad_plane, Else-bad_quantizers, Else-bad_size, Else-bad_tx_type, Else-tokens-area}
 
 -- what each passed test says
-no1 : (c : Else-bad_depth) → bad_depth c.args.depth ≡ false
+no1 : (c : Else-bad_depth) → bad_depth c.args.coding.depth ≡ false
 no1 c = sym c.bad_depth.ensures ∙ c.if-bad_depth.false
 
-no2 : (c : Else-bad_size) → bad_size c.args.size ≡ false
+no2 : (c : Else-bad_size) → bad_size c.args.coding.size ≡ false
 no2 c = sym c.bad_size.ensures ∙ c.if-bad_size.false
 
-no3 : (c : Else-bad_lossless) → let a = c.args in bad_lossless a.lossless a.size ≡ false
+no3 : (c : Else-bad_lossless) → let a = c.args in bad_lossless a.coding.lossless a.coding.size ≡ false
 no3 c = sym c.bad_lossless.ensures ∙ c.if-bad_lossless.false
 
-no4 : (c : Else-bad_tx_type) → let a = c.args in bad_tx_type a.lossless a.size a.tx_type ≡ false
+no4 : (c : Else-bad_tx_type) → let a = c.args in bad_tx_type a.coding.lossless a.coding.size a.coding.tx_type ≡ false
 no4 c = sym c.bad_tx_type.ensures ∙ c.if-bad_tx_type.false
 
-no5 : (c : Else-bad_quantizers) → let a = c.args in bad_quantizers a.dc_quant a.ac_quant ≡ false
+no5 : (c : Else-bad_quantizers) → let a = c.args in bad_quantizers a.coding.dc_quant a.coding.ac_quant ≡ false
 unfolding bad_quantizers
 no5 c = sym c.bad_quantizers.ensures ∙ c.if-bad_quantizers.false
 
 -- the count of numbers
-counted : (c : After-area) → let a = c.args in c.area.result ≡ area (a.size + 2)
+counted : (c : After-area) → let a = c.args in c.area.result ≡ area (a.coding.size + 2)
 counted c = c.area.ensures.0
 
-no6 : (c : Else-tokens-area) → let a = c.args in not (eqb a.tokens (area (a.size + 2))) ≡ false
+no6 : (c : Else-tokens-area) → let a = c.args in not (eqb a.tokens (area (a.coding.size + 2))) ≡ false
 no6 c = ap not (eq-eqb _ _ (c.if-tokens-area.false ∙ counted c.before))
 
 no7 : (c : Else-bad_plane) → let a = c.args in bad_plane a.samples a.plane ≡ false
@@ -45,43 +45,43 @@ returns-then-bad_depth c = rw (sym c.bad_depth.ensures ∙ c.if-bad_depth.true)
 
 pub returns-then-bad_size : goal.returns-then-bad_size
 unfolding shape_of
-returns-then-bad_size c = rw (no1 c.before.before, sym c.bad_size.ensures ∙ c.if-bad_size.true)
+returns-then-bad_size c = rw (no1 (goal.at.returns-then-bad_size c).Else-bad_depth, sym c.bad_size.ensures ∙ c.if-bad_size.true)
 
 pub returns-then-bad_lossless : goal.returns-then-bad_lossless
 unfolding shape_of
 returns-then-bad_lossless c =
-    rw (no1 c.before.before.before.before, no2 c.before.before, sym c.bad_lossless.ensures ∙ c.if-bad_lossless.true)
+    rw (no1 (goal.at.returns-then-bad_lossless c).Else-bad_depth, no2 (goal.at.returns-then-bad_lossless c).Else-bad_size, sym c.bad_lossless.ensures ∙ c.if-bad_lossless.true)
 
 pub returns-then-bad_tx_type : goal.returns-then-bad_tx_type
 unfolding shape_of
 returns-then-bad_tx_type c =
-    rw (no1 c.before.before.before.before.before.before, no2 c.before.before.before.before, no3 c.before.before, sym c.bad_tx_type.ensures ∙ c.if-bad_tx_type.true)
+    rw (no1 (goal.at.returns-then-bad_tx_type c).Else-bad_depth, no2 (goal.at.returns-then-bad_tx_type c).Else-bad_size, no3 (goal.at.returns-then-bad_tx_type c).Else-bad_lossless, sym c.bad_tx_type.ensures ∙ c.if-bad_tx_type.true)
 
 pub returns-then-bad_quantizers : goal.returns-then-bad_quantizers
 unfolding bad_quantizers shape_of
 returns-then-bad_quantizers c =
-    rw (no1 c.before.before.before.before.before.before.before.before, no2 c.before.before.before.before.before.before, no3 c.before.before.before.before, no4 c.before.before, sym c.bad_quantizers.ensures ∙ c.if-bad_quantizers.true)
+    rw (no1 (goal.at.returns-then-bad_quantizers c).Else-bad_depth, no2 (goal.at.returns-then-bad_quantizers c).Else-bad_size, no3 (goal.at.returns-then-bad_quantizers c).Else-bad_lossless, no4 (goal.at.returns-then-bad_quantizers c).Else-bad_tx_type, sym c.bad_quantizers.ensures ∙ c.if-bad_quantizers.true)
 
-small : (c : Else-bad_quantizers) → c.args.size ≤ 3
-small c = ltb-false 3 _ (no2 c.before.before.before.before.before.before)
+small : (c : Else-bad_size) → c.args.coding.size ≤ 3
+small c = ltb-false 3 _ (no2 c)
 
 pub area-requires : goal.area-requires
-area-requires c = (omega arith, omega (arith, small c))
+area-requires c = (omega arith, omega (arith, small (goal.at.area-requires c).Else-bad_size))
 
 pub returns-then-tokens-area : goal.returns-then-tokens-area
 unfolding shape_of
 returns-then-tokens-area c =
-    rw (no1 c.before.before.before.before.before.before.before.before.before.before, no2 c.before.before.before.before.before.before.before.before, no3 c.before.before.before.before.before.before, no4 c.before.before.before.before, no5 c.before.before, ap not (ne_eqb _ _ (rw (counted c.before) at c.if-tokens-area.true)))
+    rw (no1 (goal.at.returns-then-tokens-area c).Else-bad_depth, no2 (goal.at.returns-then-tokens-area c).Else-bad_size, no3 (goal.at.returns-then-tokens-area c).Else-bad_lossless, no4 (goal.at.returns-then-tokens-area c).Else-bad_tx_type, no5 (goal.at.returns-then-tokens-area c).Else-bad_quantizers, ap not (ne_eqb _ _ (rw (counted c.before) at c.if-tokens-area.true)))
 
 pub returns-then-bad_plane : goal.returns-then-bad_plane
 unfolding shape_of
 returns-then-bad_plane c =
-    rw (no1 c.before.before.before.before.before.before.before.before.before.before.before.before, no2 c.before.before.before.before.before.before.before.before.before.before, no3 c.before.before.before.before.before.before.before.before, no4 c.before.before.before.before.before.before, no5 c.before.before.before.before, no6 c.before.before, sym c.bad_plane.ensures ∙ c.if-bad_plane.true)
+    rw (no1 (goal.at.returns-then-bad_plane c).Else-bad_depth, no2 (goal.at.returns-then-bad_plane c).Else-bad_size, no3 (goal.at.returns-then-bad_plane c).Else-bad_lossless, no4 (goal.at.returns-then-bad_plane c).Else-bad_tx_type, no5 (goal.at.returns-then-bad_plane c).Else-bad_quantizers, no6 (goal.at.returns-then-bad_plane c).Else-tokens-area, sym c.bad_plane.ensures ∙ c.if-bad_plane.true)
 
 pub returns : goal.returns
 unfolding shape_of
 returns c =
-    rw (no1 c.before.before.before.before.before.before.before.before.before.before.before.before, no2 c.before.before.before.before.before.before.before.before.before.before, no3 c.before.before.before.before.before.before.before.before, no4 c.before.before.before.before.before.before, no5 c.before.before.before.before, no6 c.before.before, sym c.bad_plane.ensures ∙ c.if-bad_plane.false)
+    rw (no1 (goal.at.returns c).Else-bad_depth, no2 (goal.at.returns c).Else-bad_size, no3 (goal.at.returns c).Else-bad_lossless, no4 (goal.at.returns c).Else-bad_tx_type, no5 (goal.at.returns c).Else-bad_quantizers, no6 (goal.at.returns c).Else-tokens-area, sym c.bad_plane.ensures ∙ c.if-bad_plane.false)
 
-pub overflow_add-size : goal.overflow_add-size
-overflow_add-size c = record { fits = omega (arith, small c) }
+pub overflow_add-coding : goal.overflow_add-coding
+overflow_add-coding c = record { fits = omega (arith, small (goal.at.overflow_add-coding c).Else-bad_size) }

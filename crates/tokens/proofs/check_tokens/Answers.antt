@@ -18,33 +18,33 @@ use Rattle.tokens.proofs.check_tokens.Goals as goal
 use Rattle.tokens.proofs.check_tokens.Goals.{After-any_beyond, After-max_codeable_coef-most, After-some_above}
 
 -- the limit
-limit : (c : After-max_codeable_coef-most) → rd w64 c.max_codeable_coef-most.result ≡ pos (codeable c.args.depth)
+limit : (c : After-max_codeable_coef-most) → rd w64 c.max_codeable_coef-most.result ≡ pos (codeable c.args.coding.depth)
 limit c = rd_ok w64 {z = c.max_codeable_coef-most.result} c.max_codeable_coef-most.type_inv ∙ c.max_codeable_coef-most.ensures
 
 pub largest_token-requires : goal.largest_token-requires
-largest_token-requires c = let h = dc_fine c.args.dc_quant c.args.ac_quant c.requires.1 in rw (number c.args.dc_quant.0 h) h
+largest_token-requires c = let h = dc_fine c.args.coding.dc_quant c.args.coding.ac_quant c.requires.1 in rw (number c.args.coding.dc_quant.0 h) h
 
 pub largest_token-requires-2 : goal.largest_token-requires-2
-largest_token-requires-2 c = let h = ac_fine c.args.dc_quant c.args.ac_quant c.requires.1 in rw (number c.args.ac_quant.0 h) h
+largest_token-requires-2 c = let h = ac_fine c.args.coding.dc_quant c.args.coding.ac_quant c.requires.1 in rw (number c.args.coding.ac_quant.0 h) h
 
 -- the scan is both tests
 either : (c : After-some_above) → let a = c.args in
-    c.some_above.result ≡ any_beyond (codeable a.depth) (length a.tokens.now) a.tokens.now || bad_coefficient a.size a.dc_quant a.ac_quant a.tokens.now
+    c.some_above.result ≡ any_beyond (codeable a.coding.depth) (length a.tokens.now) a.tokens.now || bad_coefficient a.coding.size a.coding.dc_quant a.coding.ac_quant a.tokens.now
 either c =
     let a = c.args in
     c.some_above.ensures
-    ∙ rw (rd_ok w64 {z = c.max_codeable_coef-most.result} c.max_codeable_coef-most.type_inv ∙ c.max_codeable_coef-most.ensures) at (above_either a.size (nat_abs (rd w64 c.max_codeable_coef-most.result)) (record { 0 = c.largest_token.result }) (record { 0 = c.largest_token-2.result }) a.dc_quant a.ac_quant c.requires.1
-    (rw (number a.dc_quant.0 (dc_fine a.dc_quant a.ac_quant c.requires.1)) at c.largest_token.ensures) (rw (number a.ac_quant.0 (ac_fine a.dc_quant a.ac_quant c.requires.1)) at c.largest_token-2.ensures) a.tokens.now)
+    ∙ rw (rd_ok w64 {z = c.max_codeable_coef-most.result} c.max_codeable_coef-most.type_inv ∙ c.max_codeable_coef-most.ensures) at (above_either a.coding.size (nat_abs (rd w64 c.max_codeable_coef-most.result)) (record { 0 = c.largest_token.result }) (record { 0 = c.largest_token-2.result }) a.coding.dc_quant a.coding.ac_quant c.requires.1
+    (rw (number a.coding.dc_quant.0 (dc_fine a.coding.dc_quant a.coding.ac_quant c.requires.1)) at c.largest_token.ensures) (rw (number a.coding.ac_quant.0 (ac_fine a.coding.dc_quant a.coding.ac_quant c.requires.1)) at c.largest_token-2.ensures) a.tokens.now)
 
 -- and the second scan the first of them
 tokens_first : (c : After-any_beyond) → let a = c.args in
-    c.any_beyond.result ≡ any_beyond (codeable a.depth) (length a.tokens.now) a.tokens.now
+    c.any_beyond.result ≡ any_beyond (codeable a.coding.depth) (length a.tokens.now) a.tokens.now
 tokens_first c = rw (rd_ok w64 {z = c.max_codeable_coef-most.result} c.max_codeable_coef-most.type_inv ∙ c.max_codeable_coef-most.ensures) at c.any_beyond.ensures
 
 pub returns-then-all_small : goal.returns-then-all_small
 returns-then-all_small c =
     let a = c.args in
-    small_fine a.size a.depth a.dc_quant a.ac_quant a.tokens.now c.requires.0 c.requires.1 (c.all_small.ensures c.if-all_small.true)
+    small_fine a.coding.size a.coding.depth a.coding.dc_quant a.coding.ac_quant a.tokens.now c.requires.0 c.requires.1 (c.all_small.ensures c.if-all_small.true)
 
 pub returns-then-any_beyond : goal.returns-then-any_beyond
 unfolding token_answer
@@ -60,10 +60,10 @@ pub returns : goal.returns
 unfolding token_answer
 returns c =
     let a = c.args in
-    let x = any_beyond (codeable a.depth) (length a.tokens.now) a.tokens.now in
-    let y = bad_coefficient a.size a.dc_quant a.ac_quant a.tokens.now in
+    let x = any_beyond (codeable a.coding.depth) (length a.tokens.now) a.tokens.now in
+    let y = bad_coefficient a.coding.size a.coding.dc_quant a.coding.ac_quant a.tokens.now in
     let e = none x y (sym (either c.before) ∙ c.if-some_above.false) in
     rw (e.0, e.1)
 
 pub overflow_cast-most : goal.overflow_cast-most
-overflow_cast-most c = rw (limit c) (tt, record { fits = omega (arith, codeable_most c.args.depth) })
+overflow_cast-most c = rw (limit c) (tt, record { fits = omega (arith, codeable_most c.args.coding.depth) })
