@@ -315,11 +315,7 @@ pub fn round(z: &mut [i16; 1024], n: u32)
 fn magnitude(x: i16) -> u32
     ensures { (result ≡ nat_abs x) × (result ≤ 32768) }
 {
-    let y = narrow::wide(x);
-    if y < 0 {
-        return (-y) as u32;
-    }
-    y as u32
+    u32::from(x.unsigned_abs())
 }
 
 // The magnitudes of the first `count` numbers, added up.
@@ -328,8 +324,8 @@ pub fn total(z: &[i16; 1024], count: usize) -> u32
     ensures { result ≡ total count z.now }
 {
     let mut all = 0u32;
-    for k in 0..count {
-        all = all + magnitude(z[k]);
+    for x in &z[..count] {
+        all += magnitude(*x);
     }
     all
 }
