@@ -55,7 +55,7 @@ pub fn is_short(x: i32) -> bool
     i16::try_from(x).is_ok()
 }
 
-// x to place a and y to place b; flip exchanges the two.
+// x to place a and y to place b; flip exchanges the two. It stays a flag, here and below: it is an argument of the specification's B and H.
 fn put<E: Copy, const N: usize>(t: &mut [E; N], a: usize, b: usize, x: E, y: E, flip: bool)
     requires { (a < N) × (b < N) }
     ensures { t.new ≡ set_both t.old a b x y flip }

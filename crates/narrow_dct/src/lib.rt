@@ -12,7 +12,8 @@ ghost use Rattle.narrow.specs.Inner.{Fine16};
 ghost use Rattle.narrow_dct.specs.Inner.{first4, last4, turns5, first5, next5, last5, sums5};
 
 // The permutation, in place: t[i] and t[brev(n, i)] change places for each of the 2^n = h k numbers i below its reverse, so each pair once.
-// Where n, h and k are literals, two loops of few turns unroll and every index folds; one of 32 turns would not.
+// Where n, h and k are literals, two loops of few turns unroll and every index folds; one of 32 turns would not. Not one with `flat::permute`: the
+// promise is over steps, whose lists are of ℤ, and one over any type would need them twice.
 pub fn permute(t: &mut [i16; 32], n: u32, h: usize, k: usize)
     requires { (n ≤ 5) × (h * k ≡ 2 ^ n) }
     ensures { t.new ≡ step (Move (2 ^ n) (Brev n)) t.old }

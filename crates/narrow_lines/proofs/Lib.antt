@@ -1,5 +1,4 @@
 pub mod Tiles
 pub mod Strips
 mod Rounding
-mod Absolute
 mod Orders

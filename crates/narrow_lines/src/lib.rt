@@ -97,6 +97,7 @@ trait Transform {
 
     ghost n: { ℕ };
 
+    // D is not read: so there is a copy for each direction, which has one caller and is inlined into it.
     fn run<D: Direction>(t: &mut [i16; 32])
         requires { Keeps pass n t.old }
         ensures { t.new ≡ apply pass n t.old };
@@ -242,7 +243,7 @@ fn eight<T: Transform, D: Direction>(z: &mut [i16; 1024], q: usize)
     }
 }
 
-// Eight lines, by size and transform.
+// Eight lines, by size and transform. `use_dct` is a flag, as `blocks` tells it of a block's type.
 fn eight_lines<D: Direction>(z: &mut [i16; 1024], q: usize, n: u32, use_dct: bool)
     requires { (3 ≤ n) × (n ≤ 5) × (use_dct ≡ false → n ≤ 4) × (8 * q + 8 ≤ side n) × (length z.old ≡ 1024) × StripKeeps D.goes_down (lossy use_dct) n (8 * q) (raster (side n) z.old) }
     ensures { Holds (side n) (strip D.goes_down (lossy use_dct) n (8 * q) 8 (raster (side n) z.old)) z.new }
@@ -289,7 +290,7 @@ pub fn columns(z: &mut [i16; 1024], n: u32, use_dct: bool)
     lines::<ByColumn>(z, n, use_dct, strips);
 }
 
-// Round2 by two shifts, so that no sum leaves 16 bits.
+// Round2 by two shifts, so that no sum leaves 16 bits; each by a literal, which is one instruction.
 fn rounded(x: i16, shift: u32) -> i16
     requires { (5 ≤ «shift») × («shift» ≤ 6) }
     ensures { result ≡ Round2 x «shift» }
@@ -300,7 +301,7 @@ fn rounded(x: i16, shift: u32) -> i16
     ((x >> 5) + 1) >> 1
 }
 
-// All numbers of a block, rounded.
+// All numbers of a block, rounded. By index: over a part of z that is lent to an iterator the proof did not close.
 pub fn round(z: &mut [i16; 1024], n: u32)
     requires { (3 ≤ n) × (n ≤ 5) × (length z.old ≡ 1024) }
     ensures { z.new ≡ fill (area n) (λ k. rounding n false (get_or z.old k (pos 0))) z.old }
@@ -315,11 +316,7 @@ pub fn round(z: &mut [i16; 1024], n: u32)
 fn magnitude(x: i16) -> u32
     ensures { (result ≡ nat_abs x) × (result ≤ 32768) }
 {
-    let y = narrow::wide(x);
-    if y < 0 {
-        return (-y) as u32;
-    }
-    y as u32
+    u32::from(x.unsigned_abs())
 }
 
 // The magnitudes of the first `count` numbers, added up.
@@ -328,13 +325,13 @@ pub fn total(z: &[i16; 1024], count: usize) -> u32
     ensures { result ≡ total count z.now }
 {
     let mut all = 0u32;
-    for k in 0..count {
-        all = all + magnitude(z[k]);
+    for x in &z[..count] {
+        all += magnitude(*x);
     }
     all
 }
 
-// Eight numbers, in their order.
+// Eight numbers, in their order. One by one: with `copy_from_slice` the proof did not close.
 fn move_eight(to: &mut [i16; 1024], at: usize, from: &[i16; 1024], start: usize)
     requires { (at + 8 ≤ 1024) × (start + 8 ≤ 1024) }
     ensures { to.new ≡ times 8 (λ c y. set y (at + c) (get_or from.now (start + c) (pos 0))) to.old }
@@ -357,7 +354,7 @@ pub fn to_strips(z: &mut [i16; 1024], s: &[i16; 1024], n: u32)
     }
 }
 
-// And back.
+// And back. A function of its own: each writes in the order of its own side, and the two promise different things.
 pub fn from_strips(s: &mut [i16; 1024], z: &[i16; 1024], n: u32)
     requires { (3 ≤ n) × (n ≤ 5) }
     ensures { s.new ≡ fill (area n) (λ k. get_or (raster (side n) z.now) k (pos 0)) s.old }
