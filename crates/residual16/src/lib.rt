@@ -167,7 +167,7 @@ fn dequantize(
     }
 }
 
-// One number at the first `count` places.
+// One number at the first `count` places; a loop, as the library's `fill` clones place by place.
 fn flat(z: &mut [i16; 1024], count: usize, v: i16)
     requires { count ≤ 1024 }
     ensures { z.new ≡ fill count (λ k. v) z.old }
