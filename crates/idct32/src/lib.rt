@@ -65,7 +65,7 @@ fn all_short(block: &[i64], count: usize) -> bool
     all
 }
 
-// These numbers, all of 16 bits, to the front of the work.
+// These numbers, all of 16 bits, to the front of the work; by index, as two lists go side by side.
 fn copy(work: &mut [i16; 1024], block: &[i64], count: usize)
     requires { (count ≤ 1024) × (count ≤ length block.now) × (shorts count block.now ≡ true) }
     ensures { work.new ≡ fill count (λ k. get_or block.now k (pos 0)) work.old }

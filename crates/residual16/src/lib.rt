@@ -21,13 +21,13 @@ use quant::{AcQuant, DcQuant};
 
 // The magnitudes of some numbers, or-ed together and added up; the sum wraps only where one of them is great.
 #[derive(Clone, Copy)]
-struct Strip {
+struct Weight {
     all: u64,
     sum: u64,
 }
 
 // Those of the n numbers from start on.
-fn weigh_strip(numbers: &[i64], start: usize, n: usize) -> Strip
+fn weigh_strip(numbers: &[i64], start: usize, n: usize) -> Weight
     requires { start + n ≤ length numbers.now }
     ensures { Weighed start n numbers.now result.all result.sum }
 {
@@ -36,23 +36,22 @@ fn weigh_strip(numbers: &[i64], start: usize, n: usize) -> Strip
     for k in 0..n {
         let m = magnitude(numbers[start + k]);
         all = all | m;
-        sum = std::num::wrapping_add_u64(sum, m);
+        sum = sum.wrapping_add(m);
     }
-    Strip { all: all, sum: sum }
+    Weight { all, sum }
 }
 
 // Those of a block of 8 by 8 or more, and how many strips of eight rows reach to the last that is live; at least one.
 #[derive(Clone, Copy)]
-struct Weight {
-    all: u64,
-    sum: u64,
+struct Scan {
+    weight: Weight,
     strips: usize,
 }
 
 // One scan: no other test of the numbers is needed.
-fn weigh(tokens: &[i64], n: u32) -> Weight
+fn weigh(tokens: &[i64], n: u32) -> Scan
     requires { (3 ≤ n) × (n ≤ 5) × (length tokens.now ≡ area n) }
-    ensures { Scanned n tokens.now result.all result.sum result.strips }
+    ensures { Scanned n tokens.now result.weight.all result.weight.sum result.strips }
 {
     let n0 = side(n);
     let mut all = 0u64;
@@ -61,15 +60,14 @@ fn weigh(tokens: &[i64], n: u32) -> Weight
     for s in 0..n0 / 8 {
         let w = weigh_strip(tokens, 8 * n0 * s, 8 * n0);
         all = all | w.all;
-        sum = std::num::wrapping_add_u64(sum, w.sum);
+        sum = sum.wrapping_add(w.sum);
         if w.all != 0 {
             strips = s + 1;
         }
     }
-    Weight {
-        all: all,
-        sum: sum,
-        strips: strips,
+    Scan {
+        weight: Weight { all, sum },
+        strips,
     }
 }
 
@@ -77,21 +75,22 @@ fn weigh(tokens: &[i64], n: u32) -> Weight
 fn most(size: u32) -> u64
     ensures { result ≡ 31883 * dq_denom size }
 {
-    if size == 3 {
-        return 63766;
+    match size {
+        3 => 63766,
+        _ => 31883,
     }
-    31883
 }
 
 // Whether 16 bits are enough for tokens of these magnitudes, the first of them by itself.
-fn enough(all: u64, sum: u64, first: u64, size: u32, dc_quant: DcQuant, ac_quant: AcQuant) -> bool
-    requires { (bad_quantizer dc_quant.0 ≡ false) × (bad_quantizer ac_quant.0 ≡ false) × (all ≤ 16383 → (first ≤ sum) × (sum ≤ 2 ^ 24)) }
-    ensures { result ≡ true → (all ≤ 16383) × (first * unsigned_abs dc_quant.0 + (sum - first) * unsigned_abs ac_quant.0 ≤ 31883 * dq_denom size) }
+fn enough(weight: Weight, first: u64, size: u32, dc_quant: DcQuant, ac_quant: AcQuant) -> bool
+    requires { (bad_quantizer dc_quant.0 ≡ false) × (bad_quantizer ac_quant.0 ≡ false) × (weight.all ≤ 16383 → (first ≤ weight.sum) × (weight.sum ≤ 2 ^ 24)) }
+    ensures { result ≡ true → (weight.all ≤ 16383) × (first * unsigned_abs dc_quant.0 + (weight.sum - first) * unsigned_abs ac_quant.0 ≤ 31883 * dq_denom size) }
 {
-    if 16383 < all {
+    if 16383 < weight.all {
         return false;
     }
-    quant::weight(dc_quant.0, first) + quant::weight(ac_quant.0, sum - first) <= most(size)
+    let rest = weight.sum - first;
+    quant::weight(dc_quant.0, first) + quant::weight(ac_quant.0, rest) <= most(size)
 }
 
 // The coefficients of eight tokens from `at` on, but for those before `from`.
@@ -168,7 +167,7 @@ fn dequantize(
     }
 }
 
-// One number at the first `count` places.
+// One number at the first `count` places; a loop, as the library's `fill` clones place by place.
 fn flat(z: &mut [i16; 1024], count: usize, v: i16)
     requires { count ≤ 1024 }
     ensures { z.new ≡ fill count (λ k. v) z.old }
@@ -210,19 +209,17 @@ pub fn residual(
     requires { (z.old ≡ replicate 1024 (pos 0)) × Lent size dc_quant ac_quant tx_type tokens.now }
     ensures { result ≡ true → Served size dc_quant ac_quant tx_type tokens.now z.new }
 {
-    let w = weigh(tokens, size + 2);
+    let scan = weigh(tokens, size + 2);
     let first = magnitude(tokens[0]);
-    if !enough(w.all, w.sum, first, size, dc_quant, ac_quant) {
+    if !enough(scan.weight, first, size, dc_quant, ac_quant) {
         return false;
     }
-    if w.sum == first {
-        if tx_type == 0 {
-            z[0] = quant::dequant16(dc_quant.0, tokens[0], size);
-            residual_dc(z, size + 2);
-            return true;
-        }
+    if scan.weight.sum == first && tx_type == 0 {
+        z[0] = quant::dequant16(dc_quant.0, tokens[0], size);
+        residual_dc(z, size + 2);
+        return true;
     }
-    dequantize(z, tokens, 8 * w.strips, size, dc_quant, ac_quant);
-    passes(z, size + 2, tx_type, w.strips);
+    dequantize(z, tokens, 8 * scan.strips, size, dc_quant, ac_quant);
+    passes(z, size + 2, tx_type, scan.strips);
     true
 }

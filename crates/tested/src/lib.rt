@@ -375,9 +375,7 @@ fn reverse(t: &mut [i16; 32], n: u32)
     for i in 0..answers::side(n) {
         let j = primitives::brev(n, i);
         if i < j {
-            let x = t[i];
-            t[i] = t[j];
-            t[j] = x;
+            t.swap(i, j);
         }
     }
 }
@@ -550,7 +548,7 @@ fn line(t: &mut [i16; 32], steps: &[Step], n: u32, kind: Kind) -> Result<(), Too
     Ok(())
 }
 
-// The n numbers of s at start, start + step, .. into the first places of t. As numbers of s they are of 16 bits.
+// By index, as two lists go at two steps. The n numbers of s at start, start + step, .. into the first places of t. As numbers of s they are of 16 bits.
 fn load(t: &mut [i16; 32], s: &[i16; 1024], start: usize, step: usize, n: usize)
     requires { (n ≤ 32) × ((k : ℕ) → k < n → start + k * step < 1024) }
     ensures made { t.new ≡ fill n (λ k. get_or s.now (start + k * step) (pos 0)) t.old }
@@ -591,7 +589,8 @@ fn one(
     Ok(())
 }
 
-// All columns of a block, not rounded, where no number leaves 16 bits.
+// All columns of a block, not rounded, where no number leaves 16 bits. Rows and columns differ in their places and in what they promise; what they
+// share is `one`.
 pub fn columns(z: &mut [i16; 1024], n: u32, kind: Kind) -> Result<(), TooWide>
     requires { (2 ≤ n) × (n ≤ 5) × Sized kind n × (length z.old ≡ 1024) }
     ensures { Tells (is_ok result) (ColumnsKeep (pass_of kind) n z.entry.now) (z.exit.now ≡ columns (apply (pass_of kind) n) (λ z. z) (side n) z.entry.now) }

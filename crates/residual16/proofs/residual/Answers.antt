@@ -1,5 +1,5 @@
 -- `residual16::residual` meets its contract.
-use Rattle.std.proofs.Common.{◌≡◌, ℕ, ◌+◌, ◌-◌, ◌*◌, ◌<◌, ◌≤◌, true, false, length, get_or, set, pos, nat_abs, ap, ◌∙◌, arith, w16, w64}
+use Rattle.std.proofs.Common.{◌≡◌, ℕ, ◌+◌, ◌-◌, ◌*◌, ◌<◌, ◌≤◌, length, get_or, set, pos, nat_abs, ap, ◌∙◌, arith, w16, w64}
 use mir.ValLaws.{to_z-of_z}
 use Rattle.whole.proofs.Signed.{rd, rd_ok}
 use Rattle.quant.specs.Places.{quantizer_at}
@@ -22,16 +22,16 @@ module _ (s : Start) where
 -- the scan, and the first magnitude
 module _ (c : After-magnitude-first) where
   abbrev all : ℕ
-  all = c.weigh-w.result.all
+  all = c.weigh-scan.result.weight.all
 
   abbrev added : ℕ
-  added = c.weigh-w.result.sum
+  added = c.weigh-scan.result.weight.sum
 
   abbrev strips : ℕ
-  strips = c.weigh-w.result.strips
+  strips = c.weigh-scan.result.strips
 
   abbrev scanned : Scanned (c.args.size + 2) c.args.tokens.now all added strips
-  scanned = c.weigh-w.ensures
+  scanned = c.weigh-scan.ensures
 
   first_is : c.magnitude-first.result ≡ nat_abs (get_or c.args.tokens.now 0 (pos 0))
   first_is = c.magnitude-first.ensures ∙ ap nat_abs (to_z-of_z w64 (get_or c.args.tokens.now 0 (pos 0)) (record { sfits = c.magnitude-arg-1.given }))
@@ -39,20 +39,20 @@ module _ (c : After-magnitude-first) where
 pub enough-requires : goal.enough-requires
 enough-requires c =
     let a = c.args in
-    ((lent c.before.before.before).dc_ok, (lent c.before.before.before).ac_ok, λ h. rw (first_is c) (bounded a.size a.dc_quant a.ac_quant a.tx_type a.tokens.now (lent c.before.before.before) (all c) (added c) (strips c) (scanned c) h))
+    ((lent (goal.at.enough-requires c).Start).dc_ok, (lent (goal.at.enough-requires c).Start).ac_ok, λ h. rw (first_is (goal.at.enough-requires c).After-magnitude-first) (bounded a.size a.dc_quant a.ac_quant a.tx_type a.tokens.now (lent (goal.at.enough-requires c).Start) (all (goal.at.enough-requires c).After-magnitude-first) (added (goal.at.enough-requires c).After-magnitude-first) (strips (goal.at.enough-requires c).After-magnitude-first) (scanned (goal.at.enough-requires c).After-magnitude-first) h))
 
 -- 16 bits are enough
 module _ (e : Else-not-enough) where
-  told : (all e.before.before ≤ 16383)
-      × (nat_abs (get_or e.args.tokens.now 0 (pos 0)) * nat_abs e.args.dc_quant.0 + (added e.before.before - nat_abs (get_or e.args.tokens.now 0 (pos 0))) * nat_abs e.args.ac_quant.0 ≤ 31883 * dq_denom e.args.size)
-  told = rw (first_is e.before.before) at (e.enough.ensures (e.if-not-enough.false))
+  told : (all e.before.before.before ≤ 16383)
+      × (nat_abs (get_or e.args.tokens.now 0 (pos 0)) * nat_abs e.args.dc_quant.0 + (added e.before.before.before - nat_abs (get_or e.args.tokens.now 0 (pos 0))) * nat_abs e.args.ac_quant.0 ≤ 31883 * dq_denom e.args.size)
+  told = rw (first_is e.before.before.before) at (e.enough.ensures (e.if-not-enough.false))
 
   shorts : (k : ℕ) → k < length e.args.tokens.now → Short e.args.size (quantizer_at e.args.dc_quant e.args.ac_quant k) (get_or e.args.tokens.now k (pos 0))
-  shorts = let a = e.args in short a.size a.dc_quant a.ac_quant a.tx_type a.tokens.now (lent e.before.before.before.before.before) (all e.before.before) (added e.before.before) (strips e.before.before) (scanned e.before.before) told.0 told.1
+  shorts = let a = e.args in short a.size a.dc_quant a.ac_quant a.tx_type a.tokens.now (lent e.before.before.before.before.before.before) (all e.before.before.before) (added e.before.before.before) (strips e.before.before.before) (scanned e.before.before.before) told.0 told.1
 
   dc_short : Short e.args.size e.args.dc_quant.0 (get_or e.args.tokens.now 0 (pos 0))
   unfolding quantizer_at
-  dc_short = shorts 0 (first_in e.before.before.before.before.before)
+  dc_short = shorts 0 (first_in e.before.before.before.before.before.before)
 
 pub dequant16-requires : goal.dequant16-requires
 dequant16-requires c =
@@ -65,7 +65,7 @@ returns-then-tx_type-eq0 c =
     let t = to_z-of_z w64 (get_or a.tokens.now 0 (pos 0)) (record { sfits = c.dequant16-arg-1.given }) in
     let v : rd w16 c.dequant16.result ≡ dequant a.size a.dc_quant.0 (get_or a.tokens.now 0 (pos 0)) = rd_ok w16 {z = c.dequant16.result} c.dequant16.type_inv ∙ rw (number a.dc_quant.0 (lent (goal.at.returns-then-tx_type-eq0 c).Start).dc_ok, t) at c.dequant16.ensures in
     λ h. served_flat a.size a.dc_quant a.ac_quant a.tx_type a.tokens.now (lent (goal.at.returns-then-tx_type-eq0 c).Start) (all (goal.at.returns-then-tx_type-eq0 c).After-magnitude-first) (added (goal.at.returns-then-tx_type-eq0 c).After-magnitude-first) (strips (goal.at.returns-then-tx_type-eq0 c).After-magnitude-first) (scanned (goal.at.returns-then-tx_type-eq0 c).After-magnitude-first) (told (goal.at.returns-then-tx_type-eq0 c).Else-not-enough).0 (told (goal.at.returns-then-tx_type-eq0 c).Else-not-enough).1
-    (c.if-w-first.true ∙ first_is (goal.at.returns-then-tx_type-eq0 c).After-magnitude-first) c.if-tx_type-eq0.true
+    (c.if-scan-first.true ∙ first_is (goal.at.returns-then-tx_type-eq0 c).After-magnitude-first) c.if-tx_type-eq0.true
     a.z.now (set a.z.now 0 (rd w16 c.dequant16.result)) c.residual_dc.new.z c.requires.0 (ap (set a.z.now 0) v) c.residual_dc.ensures
 
 pub dequantize-requires : goal.dequantize-requires
@@ -102,5 +102,5 @@ returns-then-not-enough c h = never h
 pub bounds-tokens-0-then-tx_type-eq0 : goal.bounds-tokens-0-then-tx_type-eq0
 bounds-tokens-0-then-tx_type-eq0 c = first_in (goal.at.bounds-tokens-0-then-tx_type-eq0 c).Start
 
-pub overflow_mul-w : goal.overflow_mul-w
-overflow_mul-w c = record { fits = omega (arith, (scanned (goal.at.overflow_mul-w c).After-magnitude-first).most, side_most (c.args.size + 2) (lent (goal.at.overflow_mul-w c).Start).possible.least (lent (goal.at.overflow_mul-w c).Start).possible.most) }
+pub overflow_mul-scan : goal.overflow_mul-scan
+overflow_mul-scan c = record { fits = omega (arith, (scanned (goal.at.overflow_mul-scan c).After-magnitude-first).most, side_most (c.args.size + 2) (lent (goal.at.overflow_mul-scan c).Start).possible.least (lent (goal.at.overflow_mul-scan c).Start).possible.most) }

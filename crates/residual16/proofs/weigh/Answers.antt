@@ -1,5 +1,5 @@
 -- `residual16::weigh` meets its contract.
-use Rattle.std.proofs.Common.{◌≡◌, ℕ, ◌+◌, ◌*◌, ◌/◌, ◌<◌, ◌≤◌, List, length, get_or, ℤ, pos, sym, ap, ◌∙◌, arith}
+use Rattle.std.proofs.Common.{◌≡◌, ℕ, ◌+◌, ◌*◌, ◌/◌, ◌%◌, ◌^◌, ◌<◌, ◌≤◌, List, length, get_or, ℤ, pos, sym, ap, ◌∙◌, arith}
 use native.Mathlib.Decide.{dec_lt}
 use native.Mathlib.Nat as NatL
 use lib.ListN.{get_or-eq_default}
@@ -39,7 +39,7 @@ loop-s-preserved c =
     let al = c.weigh_strip-w.result.all in
     let ad = c.weigh_strip-w.result.sum in
     let j = weighed_join 0 m (8 * n0 c.before.before.before.before.before.before.before) t c.loop-s.all c.loop-s.sum al ad c.loop-s.invariant.1 (rw z v) in
-    let joined : Weighed 0 (8 * n0 c.before.before.before.before.before.before.before * (c.loop-s.s + 1)) t (bit_or c.loop-s.all al) c.wrapping_add_u64-sum.result = rw (e, c.wrapping_add_u64-sum.ensures.value) j in
+    let joined : Weighed 0 (8 * n0 c.before.before.before.before.before.before.before * (c.loop-s.s + 1)) t (bit_or c.loop-s.all al) ((c.loop-s.sum + ad) % 2 ^ 64) = rw e j in
     let h : c.loop-s.s + 1 ≤ n0 c.before.before.before.before.before.before.before / 8 = omega arith in
     elim c.if-w-ne0.branch [
       | then-w-ne0 g ↦ (

@@ -12,7 +12,7 @@ loop-k-preserved c =
     let f : SFits w64 (get_or s (a.start + c.loop-k.k) (pos 0)) = record { sfits = c.magnitude-arg-1.given } in
     let e = rw (to_z-of_z w64 (get_or s (a.start + c.loop-k.k) (pos 0)) f) at c.magnitude-m.ensures in
     let w = weighed_one (a.start + c.loop-k.k) s c.magnitude-m.result e (omega (arith, e, abs_most (get_or s (a.start + c.loop-k.k) (pos 0)) f)) in
-    (omega arith, rw c.wrapping_add_u64-sum.ensures.value (weighed_join a.start c.loop-k.k 1 s c.loop-k.all c.loop-k.sum _ _ c.loop-k.invariant.1 w))
+    (omega arith, weighed_join a.start c.loop-k.k 1 s c.loop-k.all c.loop-k.sum _ _ c.loop-k.invariant.1 w)
 
 pub returns : goal.returns
 returns c = let e : c.args.n ≡ c.loop-k.k = omega arith in rw e c.loop-k.invariant.1

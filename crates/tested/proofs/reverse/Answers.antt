@@ -1,12 +1,14 @@
 -- `tested::reverse` meets its contract: after i turns, one exchange for each number below i.
 use mathlib.Core.Path.{◌≡◌, sym, ap, ◌∙◌}
+use mathlib.Core.List.{List, [], ◌∷◌}
 use Prim.Native.Nat.{ℕ, ◌^◌, ◌<◌}
 use native.Mathlib.Omega.{arith}
-use lib.IntN.{pos}
-use lib.ListN.{get_or}
+use borrow.Author.Rules.{rules}
+use lib.IntN.{ℤ, pos}
+use lib.ListN.{length, get_or, set}
+use Rattle.std.specs.List.{swap}
+use Rattle.std.proofs.lemmas.List.{get_or_default}
 use lib.Pow.{pow_mono}
-use mir.Syntax.{w16}
-use Rattle.whole.proofs.Signed.{rd_ok}
 use Rattle.primitives.specs.Brev.{Brev}
 use Rattle.primitives.proofs.Reversal.{brev_lt}
 use Rattle.flat.proofs.Exchange.{exchange, exchanges, exchanges_none, exchanges_more, exchange_taken, exchange_left, reversed}
@@ -21,15 +23,24 @@ reverse : (c : After-brev-j) → c.brev-j.result < 32
 reverse c =
     omega (arith, c.brev-j.ensures, brev_lt c.args.n c.loop-i.i, pow_mono {i = c.args.n} {j = 5} c.requires.1)
 
+-- what the library's swap leaves, by place
+swapped : (t : List ℤ) (i j : ℕ) → i < length t → j < length t → swap t i j ≡ set (set t i (get_or t j (pos 0))) j (get_or t i (pos 0))
+swapped [] i j h k = absurd (omega arith)
+swapped (d ∷ ys) i j h k = rw (get_or_default (d ∷ ys) j d (pos 0) k, get_or_default (d ∷ ys) i d (pos 0) h)
+
 -- a turn, whichever way it went
 turn : (c : Joined-i-j) → c.if-i-j.t ≡ exchange c.loop-i.i c.brev-j.result c.loop-i.t
 turn c =
     let i = c.loop-i.i in
     let j = c.brev-j.result in
     let y = c.loop-i.t in
+    let p = place c.before.before in
+    let q = reverse c.before in
     elim c.if-i-j.branch [
-      | then-i-j w ↦ w.t-is
-          ∙ rw (rd_ok w16 {z = get_or y i (pos 0)} w.x-1.given, rd_ok w16 {z = get_or y j (pos 0)} w.t-1.given) (sym (exchange_taken i j y w.if-i-j.true))
+      | then-i-j w ↦
+          let a : i < length y = search rules in
+          let b : j < length y = search rules in
+          w.t-is ∙ w.swap.ensures.after ∙ swapped y i j a b ∙ sym (exchange_taken i j y w.if-i-j.true)
       | else-i-j w ↦ w.t-is ∙ sym (exchange_left i j y w.if-i-j.false)
     ]
 
@@ -46,26 +57,8 @@ returns c =
 pub loop-i-init : goal.loop-i-init
 loop-i-init c = (omega arith, exchanges_none _ _)
 
-pub offset_bounds-t-i : goal.offset_bounds-t-i
-offset_bounds-t-i c = omega (arith, place c.before.before)
+pub swap-requires-clause-a_in_bounds : goal.swap-requires-clause-a_in_bounds
+swap-requires-clause-a_in_bounds c = let h = place (goal.at.swap-requires-clause-a_in_bounds c).In-loop-i in search rules
 
-pub bounds-t-i : goal.bounds-t-i
-bounds-t-i c = omega (arith, place c.before.before)
-
-pub offset_bounds-t-j : goal.offset_bounds-t-j
-offset_bounds-t-j c = omega (arith, reverse c.before.before)
-
-pub bounds-t-j : goal.bounds-t-j
-bounds-t-j c = omega (arith, reverse c.before.before)
-
-pub offset_bounds-t-i-then-i-j : goal.offset_bounds-t-i-then-i-j
-offset_bounds-t-i-then-i-j c = omega (arith, place c.before.before.before.before)
-
-pub bounds-t-i-then-i-j : goal.bounds-t-i-then-i-j
-bounds-t-i-then-i-j c = omega (arith, place c.before.before.before.before)
-
-pub offset_bounds-t-j-then-i-j : goal.offset_bounds-t-j-then-i-j
-offset_bounds-t-j-then-i-j c = omega (arith, reverse c.before.before.before)
-
-pub bounds-t-j-then-i-j : goal.bounds-t-j-then-i-j
-bounds-t-j-then-i-j c = omega (arith, reverse c.before.before.before)
+pub swap-requires-clause-b_in_bounds : goal.swap-requires-clause-b_in_bounds
+swap-requires-clause-b_in_bounds c = let h = reverse (goal.at.swap-requires-clause-b_in_bounds c).After-brev-j in search rules
