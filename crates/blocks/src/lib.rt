@@ -61,16 +61,6 @@ pub fn any_live(s: &[i64], start: usize, n: usize) -> bool
     any
 }
 
-// The bits of x as a number, which are 0 for 0 alone. Both forms are no instruction to the compiler.
-fn bits(x: i64) -> u64
-    ensures { (result ≡ 0 → x ≡ pos 0) × (x ≡ pos 0 → result ≡ 0) }
-{
-    if x < 0 {
-        return 18446744073709551615 - answers::magnitude(x) + 1;
-    }
-    x as u64
-}
-
 // As any_live, with all numbers or-ed together: the quicker for long lines.
 fn or_live(s: &[i64], start: usize, n: usize) -> bool
     requires { start + n ≤ length s.now }
@@ -78,7 +68,7 @@ fn or_live(s: &[i64], start: usize, n: usize) -> bool
 {
     let mut all = 0u64;
     for k in 0..n {
-        all = all | bits(s[start + k]);
+        all |= s[start + k].cast_unsigned();
     }
     all != 0
 }
@@ -94,29 +84,15 @@ pub fn any_live_first(s: &[i64], start: usize, n: usize) -> bool
     or_live(s, start + 1, n - 1)
 }
 
-// x + most on 64 bits: a number below -most wraps to the top. All three forms are one addition to the compiler.
-fn plus_most(x: i64, most: u64) -> u64
-    requires { most ≤ 2 ^ 61 }
-    ensures { result < most + most → nat_abs x ≤ most }
-{
-    if x < 0 {
-        let m = answers::magnitude(x);
-        if m <= most {
-            return most - m;
-        }
-        return 18446744073709551615 - (m - most) + 1;
-    }
-    x as u64 + most
-}
-
-// The n numbers from start on, each plus most, or-ed together. None is above the whole, so below 2 × most no magnitude is above most.
+// The n numbers from start on, each plus most, or-ed together; a number below -most wraps to the top. None is above the whole, so below 2 × most
+// no magnitude is above most.
 pub fn or_plus_most(s: &[i64], start: usize, n: usize, most: u64) -> u64
     requires { (start + n ≤ length s.now) × (most ≤ 2 ^ 61) }
     ensures { result < most + most → (k : ℕ) → k < n → nat_abs (get_or s.now (start + k) (pos 0)) ≤ most }
 {
     let mut all = 0u64;
     for k in 0..n {
-        all = all | plus_most(s[start + k], most);
+        all |= most.wrapping_add_signed(s[start + k]);
     }
     all
 }

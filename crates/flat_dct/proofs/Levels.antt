@@ -1,15 +1,14 @@
 -- The process of the inverse DCT as the code goes: steps 2 to 7 of each size, those above n left out.
-use mathlib.Core.Path.{◌≡◌, refl, sym, ap, ◌∙◌, subst}
-use mathlib.Core.Bool.{Bool, true, false}
+use mathlib.Core.Path.{◌≡◌, refl, sym, subst}
+use mathlib.Core.Bool.{Bool, true}
 use mathlib.Core.List.{List, [], ◌∷◌, ◌++◌}
-use Prim.Native.Nat.{ℕ, ◌+◌, ◌-◌, ◌*◌, ◌/◌, ◌%◌, ◌^◌, ◌≤◌, ◌<◌}
-use native.Mathlib.Omega.{arith}
+use Prim.Native.Nat.{ℕ, ◌-◌, ◌*◌, ◌/◌, ◌%◌, ◌^◌, ◌≤◌, ◌<◌}
 use lib.Dec.{leb}
 use lib.IntN.{ℤ, pos}
 use borrow.Author.Tests.{le-leb, lt-leb}
 use Rattle.whole.specs.Steps.{run, each, when}
 use Rattle.whole.specs.Inner.{Ok}
-use Rattle.whole.proofs.Steps.{Left, left_all, left_next, left_stage, left_none, left_first, left_fine}
+use Rattle.whole.proofs.Steps.{Left, left_all, left_next, left_stage, left_first}
 use Rattle.primitives.specs.Brev.{Brev}
 use Rattle.steps.specs.Step.{Step, Bf, Move, step}
 use Rattle.steps.specs.Inner.{Fine}

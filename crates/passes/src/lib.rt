@@ -13,7 +13,10 @@ use row_pass::RowCount;
 
 // All columns. COUNTED says whether the caller counts rows: each kind of caller has an instance of its own, which is inlined there; with one for
 // both, a block of 4 by 4 is reconstructed in 1.7 of the time.
-pub fn columns<const N: u32, const LOSSLESS: bool, const COUNTED: bool>(block: &mut [i64], tx_type: u8)
+pub fn columns<const N: u32, const LOSSLESS: bool, const COUNTED: bool>(
+    block: &mut [i64],
+    tx_type: u8,
+)
     requires { Possible N tx_type LOSSLESS × (area N ≤ length block.old) × FirstWithin (2 ^ 37) (area N) block.old }
     ensures { block.new ≡ columns (apply (column_pass tx_type LOSSLESS) N) (rounding N LOSSLESS) (side N) block.old }
 {
@@ -33,7 +36,11 @@ pub fn by_summary<const N: u32, const LOSSLESS: bool>(block: &mut [i64], tx_type
     ensures { Made N tx_type LOSSLESS block.old block.new result.number }
 {
     let live = summary::scan(block, answers::side(N));
-    let count = row_pass::rows::<N, LOSSLESS>(block, live, blocks::row_transform(tx_type, LOSSLESS));
+    let count = row_pass::rows::<N, LOSSLESS>(
+        block,
+        live,
+        blocks::row_transform(tx_type, LOSSLESS),
+    );
     columns::<N, LOSSLESS, true>(block, tx_type);
     count
 }

@@ -59,7 +59,13 @@ pub fn line<const N: u32, const LOSSLESS: bool>(t: &mut [i64; 32], transform: Tr
 }
 
 // Row i through its transform, and one more counted: nothing else adds to a count.
-fn row<const N: u32, const LOSSLESS: bool>(block: &mut [i64], t: &mut [i64; 32], i: usize, transform: Transform, count: u32) -> u32
+fn row<const N: u32, const LOSSLESS: bool>(
+    block: &mut [i64],
+    t: &mut [i64; 32],
+    i: usize,
+    transform: Transform,
+    count: u32,
+) -> u32
     requires { (2 ≤ N) × (N ≤ 5) × Valid 2 (pass_of transform) N × (i < side N) × (area N ≤ length block.old) × Safe (pass_of transform) N (row (side N) i block.old) × Clear (side N) t.old × (count < side N) × (is_wht (pass_of transform) ≡ LOSSLESS) }
     ensures { (block.new ≡ change_row (apply (pass_of transform) N) (side N) i block.old) × Clear (side N) t.new × (result ≡ count + 1) }
 {
@@ -71,7 +77,11 @@ fn row<const N: u32, const LOSSLESS: bool>(block: &mut [i64], t: &mut [i64; 32],
 }
 
 // The rows whose bit is set, and no other, whatever the summary is of, through their transform; and how many they were.
-pub fn rows<const N: u32, const LOSSLESS: bool>(block: &mut [i64], summary: u32, transform: Transform) -> RowCount
+pub fn rows<const N: u32, const LOSSLESS: bool>(
+    block: &mut [i64],
+    summary: u32,
+    transform: Transform,
+) -> RowCount
     requires { (2 ≤ N) × (N ≤ 5) × Valid 2 (pass_of transform) N × (area N ≤ length block.old) × FirstWithin (2 ^ 31) (area N) block.old × (is_wht (pass_of transform) ≡ LOSSLESS) }
     ensures { Passed (pass_of transform) N summary block.old block.new result.number }
 {

@@ -1,5 +1,5 @@
 -- `flat_dct::idct_fast` meets its contract: its calls are the parts of the definition, one after the other, those of sizes above N left out.
-use mathlib.Core.Path.{◌≡◌, refl, ◌∙◌}
+use mathlib.Core.Path.{refl, ◌∙◌}
 use mathlib.Core.List.{[]}
 use native.Mathlib.Omega.{arith}
 use Rattle.whole.proofs.Steps.{left_fine, left_first, left_none}

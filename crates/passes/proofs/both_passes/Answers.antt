@@ -1,4 +1,4 @@
-use mathlib.Core.Path.{◌≡◌, refl}
+use mathlib.Core.Path.{◌≡◌}
 use native.Mathlib.Omega.{arith}
 use Rattle.passes.proofs.both_passes.Goals as goal
 use Rattle.passes.proofs.both_passes.Goals.{In-3, In-4, In_default}

@@ -1,8 +1,7 @@
 use mathlib.Core.Bool.{not}
 use lib.Dec.{eqb}
-use mathlib.Core.Path.{◌≡◌, refl, ap}
-use Prim.Native.Nat.{ℕ, ◌*◌, ◌^◌, ◌≤◌}
-use native.Mathlib.Omega.{arith}
+use mathlib.Core.Path.{◌≡◌}
+use Prim.Native.Nat.{◌^◌}
 use lib.ListN.{length}
 use lib.Pow.{pow_pos}
 use Rattle.blocks.specs.Block.{rows}
@@ -10,7 +9,6 @@ use Rattle.blocks.specs.Inverse.{apply, row_pass}
 use Rattle.blocks.proofs.Passes.{row_valid, row_wht}
 use Rattle.blocks.proofs.Inverse.{after_rows, both_passes}
 use Rattle.summary.specs.Summary.{live_rows}
-use Rattle.row_pass.specs.Inner.{Passed}
 use Rattle.row_pass.proofs.Turn.{own_rows}
 use Rattle.passes.proofs.by_summary.Given.{Over}
 use Rattle.passes.proofs.by_summary.Goals as goal

@@ -1,10 +1,7 @@
-use mathlib.Core.Path.{◌≡◌, refl, sym, ap}
+use mathlib.Core.Path.{refl}
 use Prim.Native.Nat.{ℕ, ◌+◌, ◌*◌, ◌^◌, ◌<◌}
 use native.Mathlib.Omega.{arith}
-use lib.IntN.{pos}
-use lib.ListN.{length, get_or}
-use Rattle.whole.specs.Lists.{fill}
-use Rattle.blocks.specs.Inner.{set_line}
+use lib.ListN.{length}
 use Rattle.blocks.specs.Kind.{pass_of}
 use Rattle.blocks.proofs.Passes.{valid_sized}
 use Rattle.blocks.proofs.Places.{in_row}

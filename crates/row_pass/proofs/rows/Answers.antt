@@ -1,8 +1,6 @@
-use mathlib.Core.Path.{◌≡◌, sym, ◌∙◌}
-use Prim.Native.Nat.{◌^◌, ◌<◌}
+use mathlib.Core.Path.{sym, ◌∙◌}
 use native.Mathlib.Omega.{arith}
 use Rattle.blocks.specs.Kind.{pass_of}
-use Rattle.summary.specs.Summary.{is_set}
 use Rattle.row_pass.proofs.Turn.{Job, rows_job, row_none, turn_safe, row_next, row_skip, row_done}
 use Rattle.row_pass.proofs.rows.Given.{Over}
 use Rattle.row_pass.proofs.rows.Goals as goal

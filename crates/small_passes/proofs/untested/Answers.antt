@@ -1,12 +1,9 @@
 use mathlib.Core.Bool.{not}
 use lib.Dec.{eqb}
-use mathlib.Core.Path.{◌∙◌}
-use native.Mathlib.Omega.{arith}
 use Rattle.blocks.specs.Inverse.{row_pass}
 use Rattle.blocks.proofs.Passes.{row_valid}
 use Rattle.blocks.proofs.Inverse.{after_rows, both_passes}
 use Rattle.small_passes.proofs.Small.{small}
-use Rattle.small_passes.proofs.untested.Given.{Over}
 use Rattle.small_passes.proofs.untested.Goals as goal
 
 pub columns-requires : goal.columns-requires
