@@ -23,7 +23,7 @@ use Rattle.vbk.specs.Promises.{run_of, roomy, run_answer, samples_for, answers_f
 use Rattle.vbk.specs.Inner.{outcome_of}
 use Rattle.vbk.specs.declared.Run.{Run}
 use Rattle.vbk.proofs.Numbers.{number_most}
-use Rattle.vbk.proofs.Runs.{enough}
+use Rattle.vbk.proofs.Runs.{enough, rooms}
 
 -- the numbers as the code has them
 pub shown : (r : Run) (samples answers : List ℕ) {v d w h n : ℕ} → v ≡ r.fields.version → d ≡ r.fields.depth → w ≡ r.fields.width → h ≡ r.fields.height → n ≡ r.fields.width * r.fields.height
@@ -50,22 +50,18 @@ module _ (s samples answers out : List ℕ) where
   unfolding printable
   short_out h = nothing (rw (lt-leb TEXT_LIMIT (length out) h, and_false (roomy samples answers)))
 
-  pub short_samples : length samples < 4096 → Printed s samples answers out 0 samples answers out
-  unfolding printable roomy
-  short_samples h = nothing (rw (lt-leb 4096 (length samples) h))
+  pub short_rooms : roomy samples answers ≡ false → Printed s samples answers out 0 samples answers out
+  unfolding printable
+  short_rooms h = nothing (rw h)
 
-  pub short_answers : 4096 ≤ length samples → length answers < 874 → Printed s samples answers out 0 samples answers out
-  unfolding printable roomy
-  short_answers k h = nothing (rw (le-leb 4096 (length samples) k, lt-leb 874 (length answers) h))
-
-  module _ (so : TEXT_LIMIT ≤ length out) (ss : 4096 ≤ length samples) (sa : 874 ≤ length answers) where
+  module _ (so : TEXT_LIMIT ≤ length out) (sr : roomy samples answers ≡ true) where
     can : printable samples answers out ≡ true
-    unfolding printable roomy
-    can = rw (le-leb 4096 (length samples) ss, le-leb 874 (length answers) sa, le-leb TEXT_LIMIT (length out) so)
+    unfolding printable
+    can = rw (sr, le-leb TEXT_LIMIT (length out) so)
 
     module _ {r : Run} {samples' answers' : List ℕ} (d : Replayed s samples answers r samples' answers') where
       answer_is : number r.answer ≡ header_answer s
-      answer_is = d.answered ∙ enough s samples answers ss sa
+      answer_is = d.answered ∙ enough s samples answers sr
 
       -- the line of a refusal
       pub refusal_room : {n : ℕ} → n ≡ number r.answer → Room out 0 (text (refused n))
@@ -76,7 +72,7 @@ module _ (s samples answers out : List ℕ) where
       refusal_printed {n} {k} {out'} e z p =
           let h : n ≡ header_answer s = e ∙ answer_is in
           let b : eqb (header_answer s) 0 ≡ false = ne_eqb (header_answer s) 0 (λ q. z (h ∙ q)) in
-          let c : eqb (run_answer s samples answers) 0 ≡ false = ap (λ (x : ℕ). eqb x 0) (enough s samples answers ss sa) ∙ b in
+          let c : eqb (run_answer s samples answers) 0 ≡ false = ap (λ (x : ℕ). eqb x 0) (enough s samples answers sr) ∙ b in
           record {
             length_is = put_count p ∙ sym (rw (can, b, sym h));
             text_is = put_front (refusal_room e) p ∙ sym (rw (can, b, sym h));
@@ -92,7 +88,7 @@ module _ (s samples answers out : List ℕ) where
         fine = sym answer_is ∙ z
 
         run_fine : run_answer s samples answers ≡ 0
-        run_fine = enough s samples answers ss sa ∙ fine
+        run_fine = enough s samples answers sr ∙ fine
 
         fields_are : r.fields ≡ fields_of s
         fields_are = d.fields_are ∙ rw run_fine
@@ -112,7 +108,8 @@ module _ (s samples answers out : List ℕ) where
         -- a run keeps the plane's length
         plane_long : length (run_of s).samples ≡ plane_area s
         plane_long =
-            omega (arith, ls, ap length samples_are, length-append (run_of s).samples (drop (plane_area s) samples), length-drop (plane_area s) samples, (good s fine).area_fits)
+            let w = rooms samples answers sr in
+            omega (arith, w.0, ls, ap length samples_are, length-append (run_of s).samples (drop (plane_area s) samples), length-drop (plane_area s) samples, (good s fine).area_fits)
 
         taken_samples : take (plane_area s) samples' ≡ (run_of s).samples
         taken_samples = ap (take (plane_area s)) samples_are ∙ take_at (run_of s).samples (drop (plane_area s) samples) (plane_area s) plane_long
@@ -129,10 +126,10 @@ module _ (s samples answers out : List ℕ) where
         outcome_is = rw (fine, area_of, fields_are, taken_answers, taken_samples, touched_is)
 
         pub count_fits : r.count ≤ length answers'
-        count_fits = omega (arith, d.count_most, la)
+        count_fits = let w = rooms samples answers sr in omega (arith, w.1, d.count_most, la)
 
         pub area_fits : r.fields.width * r.fields.height ≤ length samples'
-        area_fits = omega (arith, area_of, (good s fine).area_fits, ls)
+        area_fits = let w = rooms samples answers sr in omega (arith, w.0, area_of, (good s fine).area_fits, ls)
 
         module _ (bytes : (k : ℕ) → get_or s k 0 < 256) (samples_fit : (k : ℕ) → get_or samples' k 0 < 65536) (answers_fit : (k : ℕ) → get_or answers' k 0 < 256) where
           small : Small (version_of s) (depth_of s) (width_of s) (height_of s) (run_of s).answers (run_of s).samples (run_of s).touched

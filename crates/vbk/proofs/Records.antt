@@ -228,7 +228,6 @@ pub record Reading (R : Reconstruction) (s : List ℕ) (from : ℕ) (samples₀ 
   pub far : SoFar (records R s (length s) from samples₀) answers count touched (records R s (length s - count) at samples)
   pub as_long : length answers ≡ length answers₀
   pub behind : drop count answers ≡ drop count answers₀
-  pub samples_as_long : length samples ≡ length samples₀
 
 module _ (R : Reconstruction) (s : List ℕ) (from : ℕ) (samples₀ answers₀ : List ℕ) where
   pub reading_none : 12 ≤ from → from ≤ length s → Reading R s from samples₀ answers₀ samples₀ answers₀ from 0 0
@@ -238,16 +237,15 @@ module _ (R : Reconstruction) (s : List ℕ) (from : ℕ) (samples₀ answers₀
         far = rw (N.sub-zero (length s)) (far_none (records R s (length s) from samples₀) answers₀);
         as_long = refl;
         behind = refl;
-        samples_as_long = refl;
       }
 
   module _ {samples answers : List ℕ} {at count touched : ℕ} (g : Reading R s from samples₀ answers₀ samples answers at count touched) where
     pub reading_room : length s ≤ 65535 → 874 ≤ length answers₀ → at < length s → count < length answers
     reading_room small room h = omega (arith, g.placed.spaced h, g.as_long)
 
-    pub reading_more : {samples' answers' : List ℕ} {count' touched' : ℕ} → length s ≤ 65535 → 874 ≤ length answers₀ → at < length s → Stepped R s at samples answers count touched samples' answers' count' touched' → length samples' ≡ length samples
+    pub reading_more : {samples' answers' : List ℕ} {count' touched' : ℕ} → length s ≤ 65535 → 874 ≤ length answers₀ → at < length s → Stepped R s at samples answers count touched samples' answers' count' touched'
         → Reading R s from samples₀ answers₀ samples' answers' (read_on s at) count' touched'
-    reading_more {samples'} {answers'} {count'} {touched'} small room h d l =
+    reading_more {samples'} {answers'} {count'} {touched'} small room h d =
         let k : length s - count ≡ suc (length s - (count + 1)) = omega (arith, g.placed.spaced h) in
         let a = (record_at R s at samples).answer in
         let t = touched_by a (plane_of s) (head_at s at) in
@@ -261,7 +259,6 @@ module _ (R : Reconstruction) (s : List ℕ) (from : ℕ) (samples₀ answers₀
           as_long = length-set answers count a ∙ g.as_long;
           behind =
               drop-set-lt (count + 1) answers count a (omega arith) ∙ sym (drop-drop 1 count answers) ∙ ap (drop 1) g.behind ∙ drop-drop 1 count answers₀;
-          samples_as_long = ap length (sym d.samples_are) ∙ l ∙ g.samples_as_long;
         })
 
     pub reading_done : length s ≤ 65535 → 874 ≤ length answers₀ → length s ≤ at → Ran (records R s (length s) from samples₀) count touched answers₀ answers samples

@@ -2,11 +2,15 @@
 use Rattle.std.specs.Prelude.{◌≡◌, Bool, cond, ◌&&◌, List, ◌++◌, ℕ, ◌*◌, ◌≤◌, leb, eqb, length, take, drop}
 use Rattle.answers.specs.Answers.{number}
 use Rattle.answers.specs.Limits.{AREA_LIMIT, FILE_LIMIT}
-use Rattle.vbk_read.specs.Header.{plane_area, header_answer, fields_of, no_fields}
+use Rattle.vbk_read.specs.Header.{plane_area, samples_of, first_record, header_answer, fields_of, no_fields}
 use Rattle.vbk_text.specs.Text.{text, TEXT_LIMIT}
-use Rattle.vbk.specs.Replay.{RECORD_LIMIT, After, records_of, replay}
+use Rattle.vbk.specs.Replay.{Reconstruction, RECORD_LIMIT, After, records, records_of, replay}
 use Rattle.vbk.specs.Filled.{reconstruction}
 use Rattle.vbk.specs.declared.Run.{Run}
+
+-- the records of a file, each block reconstructed by R, from a list on
+abbrev pub run_by : Reconstruction → (s samples : List ℕ) → After
+run_by R s samples = records R s (length s) (first_record s) samples
 
 -- the records of a file
 abbrev pub run_of : List ℕ → After
@@ -27,6 +31,20 @@ samples_for s samples = (run_of s).samples ++ drop (plane_area s) samples
 -- every record's answer at the front of the room for the answers
 abbrev pub answers_for : List ℕ → List ℕ → List ℕ
 answers_for s answers = (run_of s).answers ++ drop (length (run_of s).answers) answers
+
+-- the outcome of a run whose blocks are reconstructed by R, and which keeps b beside the samples: under a refusal its number, and nothing changed.
+-- The last two lines say how large the counts can be
+pub record Played {B : Type 0} (R : Reconstruction) (beside : List ℕ → B → List ℕ) (s samples answers : List ℕ) (b : B) (r : Run) (samples' answers' : List ℕ) (b' : B) : Type 0 where
+  pub answered : number r.answer ≡ run_answer s samples answers
+  pub fields_are : r.fields ≡ cond (eqb (run_answer s samples answers) 0) (fields_of s) no_fields
+  pub count_is : r.count ≡ cond (eqb (run_answer s samples answers) 0) (length (run_by R s (beside (samples_of s) b)).answers) 0
+  pub touched_is : r.touched ≡ cond (eqb (run_answer s samples answers) 0) (run_by R s (beside (samples_of s) b)).touched 0
+  pub answers_are : answers' ≡ cond (eqb (run_answer s samples answers) 0) ((run_by R s (beside (samples_of s) b)).answers ++ drop (length (run_by R s (beside (samples_of s) b)).answers) answers) answers
+  pub samples_are : samples' ≡ cond (eqb (run_answer s samples answers) 0) (take (plane_area s) samples' ++ drop (plane_area s) samples) samples
+  pub beside_is : run_answer s samples answers ≡ 0 → beside (take (plane_area s) samples') b' ≡ (run_by R s (beside (samples_of s) b)).samples
+  pub beside_stays : (run_answer s samples answers ≡ 0 → ⊥) → b' ≡ b
+  pub count_most : r.count ≤ RECORD_LIMIT
+  pub touched_most : 4 * r.touched ≤ FILE_LIMIT
 
 -- the outcome: under a refusal its number, and nothing changed. The last two lines say how large the counts can be
 pub record Replayed (s samples answers : List ℕ) (r : Run) (samples' answers' : List ℕ) : Type 0 where

@@ -1,15 +1,15 @@
 // A run over a VBK file.
 #![tactic(auto)]
 
-ghost use Rattle.std.specs.Prelude.{◌≡◌, ◌+◌, ◌*◌, ◌≤◌, ◌<◌, pos, true, length};
+ghost use Rattle.std.specs.Prelude.{◌≡◌, List, ℕ, ◌+◌, ◌*◌, ◌≤◌, ◌<◌, pos, true, length};
 ghost use Rattle.answers.specs.Answers.{number};
-ghost use Rattle.vbk_read.specs.Header.{plane_area, header_answer, fields_of, no_fields};
-ghost use Rattle.vbk_read.specs.Records.{size_at, head_at, next_at, Recorded};
 ghost use Rattle.answers.specs.Limits.{FILE_LIMIT};
-ghost use Rattle.vbk.specs.Replay.{RECORD_LIMIT, record_at, records};
+ghost use Rattle.vbk_read.specs.Header.{plane_area, samples_of, header_answer, fields_of, no_fields};
+ghost use Rattle.vbk_read.specs.Records.{size_at, head_at, next_at, Recorded};
+ghost use Rattle.vbk.specs.Replay.{Reconstruction, RECORD_LIMIT, rebuild_at, record_at, records, block_of};
 ghost use Rattle.vbk.specs.Filled.{reconstruction};
-ghost use Rattle.vbk.specs.Promises.{run_of, Replayed, Printed};
-ghost use Rattle.vbk.specs.Inner.{reconstruct_at, Stepped, Ran, outcome_of};
+ghost use Rattle.vbk.specs.Promises.{run_by, roomy, Played, Replayed, Printed};
+ghost use Rattle.vbk.specs.Inner.{Stepped, Ran, outcome_of};
 ghost use Rattle.vbk_text.specs.Text.{text};
 ghost use Rattle.vbk_text.specs.Inner.{Room, Put};
 
@@ -35,46 +35,97 @@ pub fn quantizer(q: u16) -> i32
     q as i32
 }
 
+// What a run does with each block of a file: to the samples, and to what it keeps beside them, such as a report.
+pub trait Reconstruct {
+    // the samples and what is kept beside them, in one list
+    ghost beside: { List ℕ → Self → List ℕ };
+
+    // what is done to that list
+    ghost rebuilds: { Reconstruction };
+
+    // One block: its answer, and all of that list afterwards.
+    fn block(&mut self, samples: &mut [u16], fields: Fields, head: Head, tokens: &[i64]) -> Answer
+        ensures answered { number result ≡ (block_of rebuilds fields head tokens.now (beside samples.old self.old)).answer }
+        ensures written { beside samples.new self.new ≡ (block_of rebuilds fields head tokens.now (beside samples.old self.old)).samples };
+}
+
+// The plane alone, with nothing beside it.
+#[derive(Clone, Copy)]
+pub struct Alone;
+
+impl Reconstruct for Alone {
+    ghost beside = { λ samples _. samples };
+
+    ghost rebuilds = { reconstruction };
+
+    fn block(&mut self, samples: &mut [u16], fields: Fields, head: Head, tokens: &[i64]) -> Answer {
+        reconstruct::reconstruct_block(
+            samples,
+            plane_of(fields),
+            head.x as usize,
+            head.y as usize,
+            head.size as u32,
+            tokens,
+            DcQuant(quantizer(head.dc)),
+            AcQuant(quantizer(head.ac)),
+            head.tx_type,
+            head.lossless == 1,
+            fields.depth as u32,
+        )
+    }
+}
+
+// The plane of a file: its lines have no padding.
+pub fn plane_of(fields: Fields) -> Plane
+    ensures { result ≡ record { width = fields.width; height = fields.height; stride = fields.width } }
+{
+    let width = fields.width as usize;
+    Plane {
+        width,
+        height: fields.height as usize,
+        stride: width,
+    }
+}
+
 // The record at a place, whole and with a good lossless byte: its tokens are read, and reconstruction answers.
-fn rebuild(file: &[u8], at: usize, head: Head, fields: Fields, samples: &mut [u16]) -> Answer
+fn rebuild<B: Reconstruct>(
+    file: &[u8],
+    at: usize,
+    head: Head,
+    fields: Fields,
+    samples: &mut [u16],
+    blocks: &mut B,
+) -> Answer
     requires { (size_at file.now at ≤ 3) × (next_at file.now at ≤ length file.now) × (head ≡ head_at file.now at) × (fields ≡ fields_of file.now) }
-    ensures { (number result ≡ (reconstruct_at file.now at samples.old).answer) × (samples.new ≡ (reconstruct_at file.now at samples.old).samples) }
+    ensures answered { number result ≡ (rebuild_at B.rebuilds file.now at (B.beside samples.old blocks.old)).answer }
+    ensures written { B.beside samples.new blocks.new ≡ (rebuild_at B.rebuilds file.now at (B.beside samples.old blocks.old)).samples }
 {
     let n = answers::area(head.size as u32 + 2);
     let mut tokens = words::zeros();
     let start = head.next;
     start.read_tokens(file, n, &mut tokens);
-    let width = fields.width as usize;
-    reconstruct::reconstruct_block(
-        samples,
-        Plane {
-            width,
-            height: fields.height as usize,
-            stride: width,
-        },
-        head.x as usize,
-        head.y as usize,
-        head.size as u32,
-        &tokens[..n],
-        DcQuant(quantizer(head.dc)),
-        AcQuant(quantizer(head.ac)),
-        head.tx_type,
-        head.lossless == 1,
-        fields.depth as u32,
-    )
+    blocks.block(samples, fields, head, &tokens[..n])
 }
 
-// The record's answer: that of its own checks, or reconstruction's.
-fn answer_record(file: &[u8], at: usize, record: Record, fields: Fields, samples: &mut [u16]) -> u8
+// The record's answer: that of its own checks, which change nothing, or reconstruction's.
+fn answer_record<B: Reconstruct>(
+    file: &[u8],
+    at: usize,
+    record: Record,
+    fields: Fields,
+    samples: &mut [u16],
+    blocks: &mut B,
+) -> u8
     requires { (fields ≡ fields_of file.now) × Recorded file.now at «record» × («record».found ≡ true) }
-    ensures { (result ≡ (record_at reconstruction file.now at samples.old).answer) × (samples.new ≡ (record_at reconstruction file.now at samples.old).samples) }
+    ensures answered { result ≡ (record_at B.rebuilds file.now at (B.beside samples.old blocks.old)).answer }
+    ensures written { B.beside samples.new blocks.new ≡ (record_at B.rebuilds file.now at (B.beside samples.old blocks.old)).samples }
 {
     let checks = record.answer;
     let own = number8(checks);
     if own != 0 {
         return own;
     }
-    number8(rebuild(file, at, record.head, fields, samples))
+    number8(rebuild(file, at, record.head, fields, samples, blocks))
 }
 
 // How many records were read, and the touched count.
@@ -85,7 +136,7 @@ pub struct Tally {
 }
 
 // One record of the run: its answer is kept, and its touched count added.
-fn one_record(
+fn one_record<B: Reconstruct>(
     file: &[u8],
     at: usize,
     record: Record,
@@ -93,11 +144,12 @@ fn one_record(
     samples: &mut [u16],
     answers: &mut [u8],
     tally: Tally,
+    blocks: &mut B,
 ) -> Tally
     requires { (fields ≡ fields_of file.now) × Recorded file.now at «record» × («record».found ≡ true) × (tally.count < length answers.old) × (tally.touched ≤ FILE_LIMIT) }
-    ensures { Stepped reconstruction file.now at samples.old answers.old tally.count tally.touched samples.new answers.new result.count result.touched }
+    ensures { Stepped B.rebuilds file.now at (B.beside samples.old blocks.old) answers.old tally.count tally.touched (B.beside samples.new blocks.new) answers.new result.count result.touched }
 {
-    let answer = answer_record(file, at, record, fields, samples);
+    let answer = answer_record(file, at, record, fields, samples, blocks);
     let count = tally.count;
     answers[count] = answer;
     Tally {
@@ -106,16 +158,17 @@ fn one_record(
     }
 }
 
-// The records from a place on, until there is none: one reader from the first to the last.
-fn read_records(
+// The records from a place on, until there is none: one reader from the first to the last, walked by hand.
+fn read_records<B: Reconstruct>(
     file: &[u8],
     from: usize,
     fields: Fields,
     samples: &mut [u16],
     answers: &mut [u8],
+    blocks: &mut B,
 ) -> Tally
     requires { (fields ≡ fields_of file.now) × (length file.now ≤ FILE_LIMIT) × (12 ≤ from) × (from ≤ length file.now) × (RECORD_LIMIT ≤ length answers.old) }
-    ensures { Ran (records reconstruction file.now (length file.now) from samples.old) result.count result.touched answers.old answers.new samples.new }
+    ensures { Ran (records B.rebuilds file.now (length file.now) from (B.beside samples.old blocks.old)) result.count result.touched answers.old answers.new (B.beside samples.new blocks.new) }
 {
     let mut reader = vbk_read::open(file, from);
     let mut tally = Tally {
@@ -131,6 +184,7 @@ fn read_records(
             samples,
             answers,
             tally,
+            blocks,
         );
         reader = reader.next();
     }
@@ -138,15 +192,20 @@ fn read_records(
 }
 
 // The samples as the file has them, then the records.
-fn play(file: &[u8], fields: Fields, samples: &mut [u16], answers: &mut [u8]) -> Tally
+fn play<B: Reconstruct>(
+    file: &[u8],
+    fields: Fields,
+    samples: &mut [u16],
+    answers: &mut [u8],
+    blocks: &mut B,
+) -> Tally
     requires { (header_answer file.now ≡ 0) × (fields ≡ fields_of file.now) × (length samples.old ≡ plane_area file.now) × (RECORD_LIMIT ≤ length answers.old) }
-    ensures { Ran (run_of file.now) result.count result.touched answers.old answers.new samples.new }
+    ensures { Ran (run_by B.rebuilds file.now (B.beside (samples_of file.now) blocks.old)) result.count result.touched answers.old answers.new (B.beside samples.new blocks.new) }
 {
     let n = samples.len();
     let start = fields.next;
     let first = start.read_samples(file, n, samples);
-    let from = first.at;
-    read_records(file, from, fields, samples, answers)
+    read_records(file, first.at, fields, samples, answers, blocks)
 }
 
 // A run's outcome: the answer and the header, how many records were read, and the touched count.
@@ -176,14 +235,24 @@ pub fn refused(answer: Answer) -> Run
     }
 }
 
-// A run over a file: the plane is left at the front of `samples`, and every record's answer at the front of `answers`.
-pub fn replay(file: &[u8], samples: &mut [u16], answers: &mut [u8]) -> Run
-    ensures { Replayed file.now samples.old answers.old result samples.new answers.new }
+// The lent rooms hold any run's plane and answers.
+fn roomy(samples: &[u16], answers: &[u8]) -> bool
+    ensures { result ≡ roomy samples.now answers.now }
 {
-    if samples.len() < answers::AREA_LIMIT {
-        return refused(Answer::Length);
-    }
-    if answers.len() < RECORD_LIMIT {
+    answers::AREA_LIMIT <= samples.len() && RECORD_LIMIT <= answers.len()
+}
+
+// A run over a file, its blocks reconstructed by `blocks`: the plane is left at the front of `samples`, and every record's answer at the front
+// of `answers`.
+pub fn replay_with<B: Reconstruct>(
+    file: &[u8],
+    samples: &mut [u16],
+    answers: &mut [u8],
+    blocks: &mut B,
+) -> Run
+    ensures { Played B.rebuilds B.beside file.now samples.old answers.old blocks.old result samples.new answers.new blocks.new }
+{
+    if !roomy(samples, answers) {
         return refused(Answer::Length);
     }
     let h = vbk_read::read_header(file);
@@ -193,13 +262,20 @@ pub fn replay(file: &[u8], samples: &mut [u16], answers: &mut [u8]) -> Run
     }
     let fields = h.fields;
     let n = vbk_read::plane_area(fields.width, fields.height);
-    let tally = play(file, fields, &mut samples[..n], answers);
+    let tally = play(file, fields, &mut samples[..n], answers, blocks);
     Run {
         answer,
         fields,
         count: tally.count,
         touched: tally.touched,
     }
+}
+
+// A run over a file, with nothing beside the plane.
+pub fn replay(file: &[u8], samples: &mut [u16], answers: &mut [u8]) -> Run
+    ensures { Replayed file.now samples.old answers.old result samples.new answers.new }
+{
+    replay_with(file, samples, answers, &mut Alone)
 }
 
 // The text of a run that is not refused.
@@ -233,10 +309,7 @@ pub fn blockrun(file: &[u8], samples: &mut [u16], answers: &mut [u8], out: &mut 
     if out.len() < vbk_text::TEXT_LIMIT {
         return 0;
     }
-    if samples.len() < answers::AREA_LIMIT {
-        return 0;
-    }
-    if answers.len() < RECORD_LIMIT {
+    if !roomy(samples, answers) {
         return 0;
     }
     let run = replay(file, samples, answers);
