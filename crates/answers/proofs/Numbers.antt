@@ -2,42 +2,69 @@
 use mathlib.Core.Path.{◌≡◌, refl, sym, ap, ◌∙◌}
 use mathlib.Core.Bool.{Bool, true, false, cond}
 use mathlib.Core.List.{List, [], ◌∷◌}
+use Rattle.std.specs.Prelude.{Ok, Err}
 use Prim.Native.Nat.{ℕ, suc, ◌≤◌, ◌<◌}
 use native.Mathlib.Omega.{arith}
 use lib.Dec.{T, ltb, ltb→lt}
 use lib.ListN.{get_or}
 use Rattle.whole.proofs.Tests.{both, b₁, b₂}
-use Rattle.answers.specs.declared.Answer.{Answer}
-use Rattle.answers.specs.declared.Answer.TheVariants.{Done, Depth, Size, LosslessSize, TxType, Quantizer, Length, Plane, Token, Coefficient, Mark, Version, CutShort, TooLarge, LosslessByte, Report, Place, Room, Narrow, Rule, Retired}
-use Rattle.answers.specs.Answers.{number, lowest}
+use Rattle.answers.specs.declared.Refusal.{Refusal}
+use Rattle.answers.specs.declared.Refusal.TheVariants.{Depth, Size, LosslessSize, TxType, Quantizer, Length, Plane, Token, Coefficient, Mark, Version, CutShort, TooLarge, LosslessByte, Report, Place, Room, Narrow, Rule, Retired}
+use Rattle.answers.specs.Answers.{Answer, number, refusal_number, lowest}
 
--- the answer of a number; Done stands in the gaps
+-- the answer of a number; the one that is done stands in the gaps
 abbrev pub numbered : ℕ → Answer
 numbered n =
-    get_or (Done ∷ Depth ∷ Size ∷ LosslessSize ∷ TxType ∷ Quantizer ∷ Length ∷ Plane ∷ Token ∷ Coefficient ∷ Mark ∷ Version ∷ CutShort ∷ TooLarge ∷ LosslessByte ∷ Report ∷ Place ∷ Room ∷ Narrow ∷ Rule ∷ Retired ∷ []) n Done
+    get_or (Ok tt ∷ Err Depth ∷ Err Size ∷ Err LosslessSize ∷ Err TxType ∷ Err Quantizer ∷ Err Length ∷ Err Plane ∷ Err Token ∷ Err Coefficient ∷ Err Mark ∷ Err Version ∷ Err CutShort ∷ Err TooLarge ∷ Err LosslessByte ∷ Err Report ∷ Err Place ∷ Err Room ∷ Err Narrow ∷ Err Rule ∷ Err Retired ∷ []) n (Ok tt)
+
+numbered_refusal : (r : Refusal) → numbered (refusal_number r) ≡ Err r
+numbered_refusal Depth = refl
+numbered_refusal Size = refl
+numbered_refusal LosslessSize = refl
+numbered_refusal TxType = refl
+numbered_refusal Quantizer = refl
+numbered_refusal Length = refl
+numbered_refusal Plane = refl
+numbered_refusal Token = refl
+numbered_refusal Coefficient = refl
+numbered_refusal Mark = refl
+numbered_refusal Version = refl
+numbered_refusal CutShort = refl
+numbered_refusal TooLarge = refl
+numbered_refusal LosslessByte = refl
+numbered_refusal Report = refl
+numbered_refusal Place = refl
+numbered_refusal Room = refl
+numbered_refusal Narrow = refl
+numbered_refusal Rule = refl
+numbered_refusal Retired = refl
 
 pub numbered_number : (a : Answer) → numbered (number a) ≡ a
-numbered_number Done = refl
-numbered_number Depth = refl
-numbered_number Size = refl
-numbered_number LosslessSize = refl
-numbered_number TxType = refl
-numbered_number Quantizer = refl
-numbered_number Length = refl
-numbered_number Plane = refl
-numbered_number Token = refl
-numbered_number Coefficient = refl
-numbered_number Mark = refl
-numbered_number Version = refl
-numbered_number CutShort = refl
-numbered_number TooLarge = refl
-numbered_number LosslessByte = refl
-numbered_number Report = refl
-numbered_number Place = refl
-numbered_number Room = refl
-numbered_number Narrow = refl
-numbered_number Rule = refl
-numbered_number Retired = refl
+numbered_number (Ok u) = refl
+numbered_number (Err r) = numbered_refusal r
+
+-- a refusal's number is never 0
+pub refused_number : (r : Refusal) → refusal_number r ≡ 0 → ⊥
+refused_number Depth e = absurd (omega arith)
+refused_number Size e = absurd (omega arith)
+refused_number LosslessSize e = absurd (omega arith)
+refused_number TxType e = absurd (omega arith)
+refused_number Quantizer e = absurd (omega arith)
+refused_number Length e = absurd (omega arith)
+refused_number Plane e = absurd (omega arith)
+refused_number Token e = absurd (omega arith)
+refused_number Coefficient e = absurd (omega arith)
+refused_number Mark e = absurd (omega arith)
+refused_number Version e = absurd (omega arith)
+refused_number CutShort e = absurd (omega arith)
+refused_number TooLarge e = absurd (omega arith)
+refused_number LosslessByte e = absurd (omega arith)
+refused_number Report e = absurd (omega arith)
+refused_number Place e = absurd (omega arith)
+refused_number Room e = absurd (omega arith)
+refused_number Narrow e = absurd (omega arith)
+refused_number Rule e = absurd (omega arith)
+refused_number Retired e = absurd (omega arith)
 
 pub number_injective : (a b : Answer) → number a ≡ number b → a ≡ b
 number_injective a b e = sym (numbered_number a) ∙ ap numbered e ∙ numbered_number b

@@ -1,14 +1,13 @@
 #![tactic(auto)]
 
 ghost use Rattle.std.specs.Prelude.{◌≡◌, ◌≤◌, nat_abs, length};
-ghost use Rattle.answers.specs.Answers.{number};
+ghost use Rattle.answers.specs.Answers.{number, refusal_number};
 ghost use Rattle.answers.specs.Bad.{bad_depth, retired, bad_size, bad_side, bad_lossless, bad_tx_type, any_beyond};
 ghost use Rattle.answers.specs.Sizes.{side, area};
 
-// The answers of all calls and of the VBK reader, in the order of their numbers, 0 to 20.
-#[derive(Clone, Copy)]
-pub enum Answer {
-    Done,
+// Why a call or the VBK reader refuses what it is given, in the order of the numbers, 1 to 20.
+#[derive(Clone, Copy, Debug, PartialEq, Eq)]
+pub enum Refusal {
     Depth,
     Size,
     LosslessSize,
@@ -31,6 +30,9 @@ pub enum Answer {
     Retired,
 }
 
+// The answer of a call: done, or refused.
+pub type Answer = Result<(), Refusal>;
+
 // Magnitude of dequantized values, of the 2D driver's input and of the quantizer's.
 pub const COEF_LIMIT: u64 = 2147483648;
 
@@ -52,32 +54,43 @@ pub const AREA_LIMIT: usize = 4096;
 // Numbers that the quantizer takes.
 pub const LIST_LIMIT: usize = 1024;
 
-// The answer's number.
-pub fn code(a: Answer) -> u32
-    ensures { result ≡ number a }
+// The number of a refusal.
+impl From<Refusal> for u32 {
+    ghost from_gives = { λ refusal n. n ≡ refusal_number refusal };
+
+    fn from(refusal: Refusal) -> u32 {
+        match refusal {
+            Refusal::Depth => 1,
+            Refusal::Size => 2,
+            Refusal::LosslessSize => 3,
+            Refusal::TxType => 4,
+            Refusal::Quantizer => 5,
+            Refusal::Length => 6,
+            Refusal::Plane => 7,
+            Refusal::Token => 8,
+            Refusal::Coefficient => 9,
+            Refusal::Mark => 10,
+            Refusal::Version => 11,
+            Refusal::CutShort => 12,
+            Refusal::TooLarge => 13,
+            Refusal::LosslessByte => 14,
+            Refusal::Report => 15,
+            Refusal::Place => 16,
+            Refusal::Room => 17,
+            Refusal::Narrow => 18,
+            Refusal::Rule => 19,
+            Refusal::Retired => 20,
+        }
+    }
+}
+
+// The answer's number: 0 where the call is done.
+pub fn code(answer: Answer) -> u32
+    ensures { result ≡ number answer }
 {
-    match a {
-        Answer::Done => 0,
-        Answer::Depth => 1,
-        Answer::Size => 2,
-        Answer::LosslessSize => 3,
-        Answer::TxType => 4,
-        Answer::Quantizer => 5,
-        Answer::Length => 6,
-        Answer::Plane => 7,
-        Answer::Token => 8,
-        Answer::Coefficient => 9,
-        Answer::Mark => 10,
-        Answer::Version => 11,
-        Answer::CutShort => 12,
-        Answer::TooLarge => 13,
-        Answer::LosslessByte => 14,
-        Answer::Report => 15,
-        Answer::Place => 16,
-        Answer::Room => 17,
-        Answer::Narrow => 18,
-        Answer::Rule => 19,
-        Answer::Retired => 20,
+    match answer {
+        Ok(()) => 0,
+        Err(refusal) => u32::from(refusal),
     }
 }
 
@@ -85,11 +98,7 @@ pub fn code(a: Answer) -> u32
 pub fn magnitude(t: i64) -> u64
     ensures { result ≡ nat_abs t }
 {
-    if t < 0 {
-        let u = -(t + 1);
-        return u as u64 + 1;
-    }
-    t as u64
+    t.unsigned_abs()
 }
 
 // n0, the numbers of a row; n is the size number plus 2.
@@ -122,12 +131,7 @@ pub fn area(n: u32) -> usize
 pub fn bad_depth(depth: u32) -> bool
     ensures { result ≡ bad_depth depth }
 {
-    match depth {
-        8 => false,
-        10 => false,
-        12 => false,
-        _ => true,
-    }
+    !matches!(depth, 8 | 10 | 12)
 }
 
 // The depth is 12, which is read and no longer written.
@@ -148,36 +152,21 @@ pub fn bad_size(size: u32) -> bool
 pub fn bad_side(n: u32) -> bool
     ensures { result ≡ bad_side n }
 {
-    if n < 2 {
-        return true;
-    }
-    5 < n
+    n < 2 || 5 < n
 }
 
 // Lossless with a size other than 4 by 4.
 pub fn bad_lossless(lossless: bool, size: u32) -> bool
     ensures { result ≡ bad_lossless lossless size }
 {
-    if lossless {
-        return size != 0;
-    }
-    false
+    lossless && size != 0
 }
 
 // Not lossless, and a type above 3, or 32 by 32 with a type other than 0.
 pub fn bad_tx_type(lossless: bool, size: u32, tx_type: u8) -> bool
     ensures { result ≡ bad_tx_type lossless size tx_type }
 {
-    if lossless {
-        return false;
-    }
-    if 3 < tx_type {
-        return true;
-    }
-    if size == 3 {
-        return tx_type != 0;
-    }
-    false
+    !lossless && (3 < tx_type || size == 3 && tx_type != 0)
 }
 
 // Of the first `count` numbers, some magnitude is above `most`.
@@ -185,13 +174,5 @@ pub fn any_beyond(list: &[i64], count: usize, most: u64) -> bool
     requires { count ≤ length list.now }
     ensures { result ≡ any_beyond most count list.now }
 {
-    let mut i = 0;
-    while i < count {
-        let t = list[i];
-        if most < magnitude(t) {
-            return true;
-        }
-        i += 1;
-    }
-    false
+    list[..count].iter().any(|t| most < magnitude(*t))
 }

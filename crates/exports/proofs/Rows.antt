@@ -6,9 +6,9 @@ use Prim.Native.Nat.{ℕ, zero, suc, ◌≤◌, ◌<◌}
 use native.Mathlib.Omega.{arith}
 use borrow.Author.Tests.{eq-eqb, ne_eqb}
 use Rattle.whole.specs.Steps.{each, when}
-use Rattle.answers.specs.declared.Answer.{Answer}
-use Rattle.answers.specs.Answers.{number}
-use Rattle.summary.specs.declared.RowSummary.TheVariants.{Rows, Refused}
+use Rattle.std.specs.Prelude.{Ok, Err}
+use Rattle.answers.specs.Answers.{Answer, number, refusal_number}
+use Rattle.answers.specs.declared.Refusal.{Refusal}
 use Rattle.summary.specs.Summary.{those, is_set, set_rows, first_of, last_of, summarized}
 use Rattle.idct.specs.Driver as D
 use Rattle.idct.specs.Rows.{Rowed}
@@ -60,10 +60,10 @@ last_below m = last_place (set_rows m) (rows_below m)
 
 -- ---- the summary in its room
 module _ (u : Asked) where
-  pub summed : (m : ℕ) → summarized u.n u.block ≡ Rows m → Told asked_answer asked_after u 0 m
+  pub summed : (m : ℕ) → summarized u.n u.block ≡ Ok m → Told asked_answer asked_after u 0 m
   summed m e = record { answered = sym (ap summary_number e); written = sym (ap (summary_or u.room) e) }
 
-  pub not_summed : (a : Answer) {r : ℕ} → summarized u.n u.block ≡ Refused a → r ≡ number a → Told asked_answer asked_after u r u.room
+  pub not_summed : (a : Refusal) {r : ℕ} → summarized u.n u.block ≡ Err a → r ≡ refusal_number a → Told asked_answer asked_after u r u.room
   not_summed a e q = record { answered = q ∙ sym (ap summary_number e); written = sym (ap (summary_or u.room) e) }
 
 -- ---- a block and a number beside it

@@ -1,8 +1,7 @@
 -- What the calls about the rows of a block are given, and what they are lent, as one value each.
-use Rattle.std.specs.Prelude.{cond, List, ℕ, eqb, ℤ, length}
-use Rattle.answers.specs.Answers.{number}
-use Rattle.summary.specs.declared.RowSummary.{RowSummary}
-use Rattle.summary.specs.declared.RowSummary.TheVariants.{Rows, Refused}
+use Rattle.std.specs.Prelude.{cond, List, ℕ, eqb, ℤ, length, Result, Ok, Err}
+use Rattle.answers.specs.Answers.{refusal_number}
+use Rattle.answers.specs.declared.Refusal.{Refusal}
 use Rattle.summary.specs.Summary.{summarized}
 use Rattle.summary.specs.Replace as Z
 use Rattle.idct.specs.Driver as D
@@ -15,14 +14,14 @@ pub record Asked : Type 0 where
   pub room : ℕ
 
 -- the number of its answer
-abbrev pub summary_number : RowSummary → ℕ
-summary_number (Rows m) = 0
-summary_number (Refused a) = number a
+abbrev pub summary_number : Result ℕ Refusal → ℕ
+summary_number (Ok m) = 0
+summary_number (Err refusal) = refusal_number refusal
 
 -- the summary, and under a refusal what stood in its room
-abbrev pub summary_or : ℕ → RowSummary → ℕ
-summary_or room (Rows m) = m
-summary_or room (Refused a) = room
+abbrev pub summary_or : ℕ → Result ℕ Refusal → ℕ
+summary_or room (Ok m) = m
+summary_or room (Err refusal) = room
 
 -- the answer of the call, and the room afterwards
 abbrev pub asked_answer : Asked → ℕ

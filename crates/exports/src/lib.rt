@@ -20,9 +20,9 @@ ghost use Rattle.exports.specs.Rows.{asked_answer, asked_after, replaced_after, 
 ghost use Rattle.rows_told.specs.Rows.{row_number};
 ghost use Rattle.exports.specs.Run.{FIGURES, RunTold};
 
+use answers::Refusal;
 use plane::Plane;
 use quant::{AcQuant, DcQuant};
-use summary::RowSummary;
 
 // Numbers that a run tells of itself: depth, width, height, records read, touched count.
 pub const FIGURES: usize = 5;
@@ -66,15 +66,13 @@ pub extern "C" fn bracetwill_inverse_transform_2d_rows(
 ) -> u32
     ensures { Told counting_answer counting_after (record { input = record { block = block.entry.now; n = n; tx_type = tx_type; lossless = lossless }; room = rows.old }) result (record { block = block.exit.now; rows = rows.new }) }
 {
-    let driven = idct::inverse_transform_2d_rows(block, n, tx_type, lossless);
-    let answer = driven.answer;
-    let number = answers::code(answer);
-    if number != 0 {
-        return number;
+    match idct::inverse_transform_2d_rows(block, n, tx_type, lossless) {
+        Ok(count) => {
+            *rows = count.number();
+            0
+        }
+        Err(refusal) => u32::from(refusal),
     }
-    let count = driven.rows;
-    *rows = count.number();
-    number
 }
 
 // The summary of a block's rows, into the room for it, which stays under a refusal.
@@ -83,11 +81,11 @@ pub extern "C" fn bracetwill_row_summary(block: &[i64], n: u32, summary: &mut u3
     ensures { Told asked_answer asked_after (record { block = block.entry.now; n = n; room = summary.old }) result summary.new }
 {
     match summary::row_summary(block, n) {
-        RowSummary::Rows(rows) => {
+        Ok(rows) => {
             *summary = rows;
             0
         }
-        RowSummary::Refused(answer) => answers::code(answer),
+        Err(refusal) => u32::from(refusal),
     }
 }
 
@@ -340,24 +338,23 @@ pub extern "C" fn bracetwill_replay(
     ensures { RunTold file.now samples.old answers.old figures.old result samples.new answers.new figures.new }
 {
     if figures.len() < FIGURES {
-        return answers::code(answers::Answer::Length);
+        return u32::from(Refusal::Length);
     }
-    let run = vbk::replay(file, samples, answers);
-    let answer = run.answer;
-    let number = answers::code(answer);
-    if number != 0 {
-        return number;
+    match vbk::replay(file, samples, answers) {
+        Ok(run) => {
+            let fields = run.fields;
+            put_figures(
+                figures,
+                fields.depth,
+                fields.width,
+                fields.height,
+                run.count,
+                run.touched,
+            );
+            0
+        }
+        Err(refusal) => u32::from(refusal),
     }
-    let fields = run.fields;
-    put_figures(
-        figures,
-        fields.depth,
-        fields.width,
-        fields.height,
-        run.count,
-        run.touched,
-    );
-    number
 }
 
 // A run over a VBK file and its text, which is left at the front of `out`; how long it is. 0 where a lent room is too short.
@@ -394,15 +391,14 @@ pub extern "C" fn bracetwill_vbk_write(
 ) -> u32
     ensures { Told request_answer buffer_after (record { lent = record { depth = depth; width = width; height = height; samples = samples.now; xs = xs.now; ys = ys.now; sizes = sizes.now; tx_types = tx_types.now; lossless = lossless.now; dcs = dcs.now; acs = acs.now; counts = counts.now; tokens = tokens.now }; out = out.entry.now; size = length.old }) result (record { out = out.exit.now; size = length.new }) }
 {
-    let written = vbk_write::vbk_write(
+    match vbk_write::vbk_write(
         depth, width, height, samples, xs, ys, sizes, tx_types, lossless, dcs, acs, counts, tokens,
         out,
-    );
-    let answer = written.answer;
-    let number = answers::code(answer);
-    if number != 0 {
-        return number;
+    ) {
+        Ok(written) => {
+            length[0] = written;
+            0
+        }
+        Err(refusal) => u32::from(refusal),
     }
-    length[0] = written.length;
-    number
 }

@@ -2,10 +2,9 @@
 use Rattle.std.specs.Prelude.{not, cond, List, [], ◌∷◌, ◌≡◌, ℕ, ◌+◌, ◌*◌, ◌/◌, ◌%◌, eqb, ℤ, pos, ◌*ℤ◌, length, get_or}
 use Rattle.whole.specs.Lists.{tabulate}
 use Rattle.whole.specs.Round.{Round2}
-use Rattle.answers.specs.Answers.{number, lowest}
+use Rattle.answers.specs.Answers.{Answer, number, lowest}
 use Rattle.answers.specs.Bad.{bad_side, any_beyond}
 use Rattle.answers.specs.Sizes.{side, area}
-use Rattle.answers.specs.declared.Answer.{Answer}
 use Rattle.basis.specs.Basis.{basis_at}
 use Rattle.fwd_dct.specs.Sum.{sum}
 

@@ -6,9 +6,8 @@ use Prim.Native.Nat.{ℕ}
 use lib.IntN.{ℤ, pos}
 use lib.ListN.{length, get_or}
 use Rattle.whole.proofs.Lists.{length_tabulate, get_d_tabulate, tabulate_is}
-use Rattle.answers.specs.Answers.{number}
+use Rattle.answers.specs.Answers.{Answer, number}
 use Rattle.answers.specs.Bad.{bad_quantizer}
-use Rattle.answers.specs.declared.Answer.{Answer}
 use Rattle.answers.specs.Limits.{codeable}
 use Rattle.quant.specs.Choice.{Nearest, Least, Greatest}
 use Rattle.quant.specs.Places.{quantizer_at}

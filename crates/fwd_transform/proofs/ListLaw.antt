@@ -8,10 +8,9 @@ use borrow.Author.Tests.{le-ltb}
 use lib.IntN.{ℤ, pos, nat_abs}
 use lib.ListN.{length, get_or}
 use Rattle.whole.proofs.Lists.{length_tabulate, get_d_tabulate, tabulate_same}
-use Rattle.answers.specs.Answers.{number}
+use Rattle.answers.specs.Answers.{Answer, number}
 use Rattle.answers.specs.Bad.{bad_depth, retired, bad_quantizer, any_beyond}
 use Rattle.answers.specs.Limits.{COEF_LIMIT, LIST_LIMIT, codeable}
-use Rattle.answers.specs.declared.Answer.{Answer}
 use Rattle.answers.proofs.Passed.{all_within}
 use Rattle.quant.specs.Places.{quantizer_at, dequant_all, given_back_all}
 use Rattle.quant.specs.Token.{dequant, quantize}

@@ -1,9 +1,8 @@
 -- The forward WHT of a block of 4 by 4 numbers: columns, then rows, both at shift 0. It undoes the lossless inverse of §8.7.2.
 use Rattle.std.specs.Prelude.{not, cond, List, [], ◌∷◌, ◌≡◌, ℕ, eqb, ℤ, length}
-use Rattle.answers.specs.Answers.{number, lowest}
+use Rattle.answers.specs.Answers.{Answer, number, lowest}
 use Rattle.answers.specs.Bad.{any_beyond}
 use Rattle.answers.specs.Limits.{WHT_LIMIT}
-use Rattle.answers.specs.declared.Answer.{Answer}
 use Rattle.blocks.specs.Block.{rows, columns}
 use Rattle.wht.specs.Wht.{wht}
 

@@ -1,10 +1,9 @@
 -- The quantizing calls: a list of coefficients becomes the list of their tokens.
 use Rattle.std.specs.Prelude.{Bool, ◌||◌, cond, List, [], ◌∷◌, ◌≡◌, ℕ, ltb, eqb, ℤ, pos, length, get_or}
 use Rattle.whole.specs.Lists.{tabulate}
-use Rattle.answers.specs.Answers.{number, lowest}
+use Rattle.answers.specs.Answers.{Answer, number, lowest}
 use Rattle.answers.specs.Bad.{bad_depth, retired, bad_size, bad_quantizer, any_beyond}
 use Rattle.answers.specs.Limits.{COEF_LIMIT, LIST_LIMIT, codeable}
-use Rattle.answers.specs.declared.Answer.{Answer}
 use Rattle.quant.specs.Places.{quantizer_at}
 use Rattle.quant.specs.Token.{quantize}
 use Rattle.quant.specs.declared.AcQuant.{AcQuant}

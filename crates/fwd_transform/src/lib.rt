@@ -14,10 +14,10 @@ ghost use Rattle.fwd_transform.specs.ForwardWht.{Forwarded, wht_answer};
 ghost use Rattle.fwd_transform.specs.Quantize.{Quantized, Ruled, answer_of, bad_rule, tokens_of};
 
 use answers::{
-    Answer, COEF_LIMIT, LIST_LIMIT, WHT_LIMIT, any_beyond, bad_depth, bad_size, code, retired,
+    Answer, COEF_LIMIT, LIST_LIMIT, Refusal, WHT_LIMIT, any_beyond, bad_depth, bad_size, retired,
 };
 use blocks::{load, store};
-use quant::{AcQuant, DcQuant, max_codeable_coef};
+use quant::{AcQuant, DcQuant, bad_quantizers, max_codeable_coef, quantize, quantizer_at};
 use wht::inverse_wht;
 
 // The answer to the whole block, before anything is written.
@@ -26,12 +26,12 @@ fn check_wht(block: &[i64]) -> Answer
 {
     let n = block.len();
     if n != 16 {
-        return Answer::Length;
+        return Err(Refusal::Length);
     }
     if any_beyond(block, n, WHT_LIMIT) {
-        return Answer::Coefficient;
+        return Err(Refusal::Coefficient);
     }
-    Answer::Done
+    Ok(())
 }
 
 // The WHT of the four numbers at start, start + step, ..
@@ -69,13 +69,10 @@ fn wht_rows(block: &mut [i64])
 pub fn forward_wht_2d(block: &mut [i64]) -> Answer
     ensures { Forwarded block.old result block.new }
 {
-    let answer = check_wht(block);
-    if code(answer) != 0 {
-        return answer;
-    }
+    check_wht(block)?;
     wht_columns(block);
     wht_rows(block);
-    answer
+    Ok(())
 }
 
 // The rule is not 1 or 2.
@@ -93,28 +90,25 @@ fn check(coefs: &[i64], dc: DcQuant, ac: AcQuant, size: u32, depth: u32) -> Answ
     ensures { number result ≡ answer_of (record { coefs = coefs.entry.now; dc = dc; ac = ac; size = size; depth = depth }) }
 {
     if bad_depth(depth) {
-        return Answer::Depth;
+        return Err(Refusal::Depth);
     }
     if retired(depth) {
-        return Answer::Retired;
+        return Err(Refusal::Retired);
     }
     if bad_size(size) {
-        return Answer::Size;
+        return Err(Refusal::Size);
     }
-    if dc.bad() {
-        return Answer::Quantizer;
-    }
-    if ac.bad() {
-        return Answer::Quantizer;
+    if bad_quantizers(dc, ac) {
+        return Err(Refusal::Quantizer);
     }
     let n = coefs.len();
     if LIST_LIMIT < n {
-        return Answer::Length;
+        return Err(Refusal::Length);
     }
     if any_beyond(coefs, n, COEF_LIMIT) {
-        return Answer::Coefficient;
+        return Err(Refusal::Coefficient);
     }
-    Answer::Done
+    Ok(())
 }
 
 // The token of the coefficient at place k: DC at place 0, AC at all others.
@@ -122,10 +116,7 @@ fn token_at(k: usize, coef: i64, dc: DcQuant, ac: AcQuant, size: u32, most: u64,
     requires { (bad_quantizer dc.0 ≡ false) × (bad_quantizer ac.0 ≡ false) × (nat_abs coef ≤ 2 ^ 31) × (most ≤ codeable 12) }
     ensures { result ≡ quantize rule size most (quantizer_at dc ac k) coef }
 {
-    if k == 0 {
-        return dc.quantize(coef, size, most, rule);
-    }
-    ac.quantize(coef, size, most, rule)
+    quantize(quantizer_at(k, dc, ac), coef, size, most, rule)
 }
 
 // Each coefficient becomes its token.
@@ -134,11 +125,9 @@ fn tokens_in_place(coefs: &mut [i64], dc: DcQuant, ac: AcQuant, size: u32, depth
     ensures { coefs.exit.now ≡ tokens_of rule (record { coefs = coefs.entry.now; dc = dc; ac = ac; size = size; depth = depth }) }
 {
     let most = max_codeable_coef(depth) as u64;
-    let mut k = 0;
-    while k < coefs.len() {
+    for k in 0..coefs.len() {
         let coef = coefs[k];
         coefs[k] = token_at(k, coef, dc, ac, size, most, rule);
-        k += 1;
     }
 }
 
@@ -154,14 +143,11 @@ pub fn quantize_block_rule(
     ensures { Ruled rule (record { coefs = coefs.entry.now; dc = dc; ac = ac; size = size; depth = depth }) result coefs.exit.now }
 {
     if bad_rule(rule) {
-        return Answer::Rule;
+        return Err(Refusal::Rule);
     }
-    let answer = check(coefs, dc, ac, size, depth);
-    if code(answer) != 0 {
-        return answer;
-    }
+    check(coefs, dc, ac, size, depth)?;
     tokens_in_place(coefs, dc, ac, size, depth, rule);
-    answer
+    Ok(())
 }
 
 // Coefficients to tokens by rule 1, at any size, at depths 8 and 10.

@@ -9,9 +9,9 @@ use lib.Dec.{ltb, eqb}
 use lib.IntN.{ℤ}
 use lib.ListN.{length}
 use Rattle.whole.proofs.Within.{within_le}
-use Rattle.answers.specs.declared.Answer.{Answer}
-use Rattle.answers.specs.declared.Answer.TheVariants.{Done, Coefficient}
-use Rattle.answers.specs.Answers.{number}
+use Rattle.std.specs.Prelude.{Ok, Err}
+use Rattle.answers.specs.declared.Refusal.TheVariants.{Coefficient}
+use Rattle.answers.specs.Answers.{Answer, number}
 use Rattle.answers.specs.Bad.{bad_side, bad_room, bad_lossless, bad_tx_type, any_beyond}
 use Rattle.answers.specs.Limits.{COEF_LIMIT}
 use Rattle.answers.proofs.Passed.{side_range, none_within}
@@ -119,18 +119,18 @@ driven u a after e h =
     record { answered = h.answered ∙ sym g; written = h.written ∙ rw g (by_beyond (beyond u) u.block (inverse2d u.n u.tx_type u.lossless u.block)) }
 
 -- ---- the limit passed or not
-pub over : (u : Input) → any_beyond COEF_LIMIT (area u.n) u.block ≡ true → Checked u Coefficient u.block
+pub over : (u : Input) → any_beyond COEF_LIMIT (area u.n) u.block ≡ true → Checked u (Err Coefficient) u.block
 over u h = record { answered = rw h; written = rw h }
 
-pub under : (u : Input) (after : List ℤ) → any_beyond COEF_LIMIT (area u.n) u.block ≡ false → after ≡ inverse2d u.n u.tx_type u.lossless u.block → Checked u Done after
+pub under : (u : Input) (after : List ℤ) → any_beyond COEF_LIMIT (area u.n) u.block ≡ false → after ≡ inverse2d u.n u.tx_type u.lossless u.block → Checked u (Ok tt) after
 under u after h e = record { answered = rw h; written = rw h e }
 
 -- ---- the fast engine: the residual made, or the block left
 pub made : (u : Input) {k : ℕ} {after : List ℤ} → any_beyond COEF_LIMIT (area u.n) u.block ≡ false → after ≡ inverse2d u.n u.tx_type u.lossless u.block
-    → k ≡ length (row_list u) → Tried u Done k after
+    → k ≡ length (row_list u) → Tried u (Ok tt) k after
 made u h e c = record { answered = rw h; written = rw h e; counted = rw h c }
 
-pub left : (u : Input) {a : Answer} {k : ℕ} → a ≡ Coefficient → k ≡ 0 → any_beyond COEF_LIMIT (area u.n) u.block ≡ true → Tried u a k u.block
+pub left : (u : Input) {a : Answer} {k : ℕ} → a ≡ Err Coefficient → k ≡ 0 → any_beyond COEF_LIMIT (area u.n) u.block ≡ true → Tried u a k u.block
 left u e z h = record { answered = rw (e, h); written = rw h; counted = rw h z }
 
 -- sizes above 4 by 4 are not lossless

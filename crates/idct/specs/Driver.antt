@@ -1,7 +1,6 @@
 -- The promise of the two-dimensional drivers: their answer, and the block afterwards.
 use Rattle.std.specs.Prelude.{◌≡◌, Bool, cond, List, [], ◌∷◌, ℕ, ◌-◌, eqb, ℤ, length}
-use Rattle.answers.specs.declared.Answer.{Answer}
-use Rattle.answers.specs.Answers.{number, lowest}
+use Rattle.answers.specs.Answers.{Answer, number, lowest}
 use Rattle.answers.specs.Limits.{COEF_LIMIT}
 use Rattle.answers.specs.Sizes.{area}
 use Rattle.answers.specs.Bad.{bad_side, bad_room, bad_lossless, bad_tx_type, any_beyond}

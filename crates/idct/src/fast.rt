@@ -3,55 +3,38 @@ ghost use Rattle.answers.specs.Sizes.{area};
 ghost use Rattle.blocks.specs.Inner.{FirstWithin, Possible};
 ghost use Rattle.blocks.specs.Inverse.{inverse2d};
 ghost use Rattle.row_pass.specs.Inner.{MadeOrFilled};
-ghost use Rattle.idct.specs.Rows.{row_list};
+ghost use Rattle.idct.specs.Rows.{row_list, answered_by, counted_by};
 ghost use Rattle.idct.specs.Inner.{Tried};
 
-use crate::DrivenRows;
-use answers::Answer;
+use answers::Refusal;
 use row_pass::RowCount;
-
-// A refusal: no row is transformed.
-pub fn refused(answer: Answer) -> DrivenRows
-    ensures { (result.answer ≡ answer) × (result.rows.number ≡ 0) }
-{
-    DrivenRows {
-        answer: answer,
-        rows: row_pass::no_rows(),
-    }
-}
 
 // Each of the following makes the residual and counts the rows that it transforms, or leaves the block: a number is beyond its limit.
 
-fn try_wht4(block: &mut [i64]) -> DrivenRows
+fn try_wht4(block: &mut [i64]) -> Result<RowCount, Refusal>
     requires { 16 ≤ length block.old }
-    ensures { Tried (record { block = block.entry.now; n = 2; tx_type = 0; lossless = true }) result.answer result.rows.number block.exit.now }
+    ensures { Tried (record { block = block.entry.now; n = 2; tx_type = 0; lossless = true }) (answered_by result) (counted_by result) block.exit.now }
 {
     if !dc::within(block, 16) {
-        return refused(Answer::Coefficient);
+        return Err(Refusal::Coefficient);
     }
-    DrivenRows {
-        answer: Answer::Done,
-        rows: small_passes::wht_by_summary(block),
-    }
+    Ok(small_passes::wht_by_summary(block))
 }
 
-fn try_lossy4(block: &mut [i64], tx_type: u8) -> DrivenRows
+fn try_lossy4(block: &mut [i64], tx_type: u8) -> Result<RowCount, Refusal>
     requires { 16 ≤ length block.old }
-    ensures { Tried (record { block = block.entry.now; n = 2; tx_type = tx_type; lossless = false }) result.answer result.rows.number block.exit.now }
+    ensures { Tried (record { block = block.entry.now; n = 2; tx_type = tx_type; lossless = false }) (answered_by result) (counted_by result) block.exit.now }
 {
     if !dc::within(block, 16) {
-        return refused(Answer::Coefficient);
+        return Err(Refusal::Coefficient);
     }
-    DrivenRows {
-        answer: Answer::Done,
-        rows: small_passes::inverse4(block, tx_type),
-    }
+    Ok(small_passes::inverse4(block, tx_type))
 }
 
 // 4 by 4.
-pub fn try_4(block: &mut [i64], tx_type: u8, lossless: bool) -> DrivenRows
+pub fn try_4(block: &mut [i64], tx_type: u8, lossless: bool) -> Result<RowCount, Refusal>
     requires { 16 ≤ length block.old }
-    ensures { Tried (record { block = block.entry.now; n = 2; tx_type = tx_type; lossless = lossless }) result.answer result.rows.number block.exit.now }
+    ensures { Tried (record { block = block.entry.now; n = 2; tx_type = tx_type; lossless = lossless }) (answered_by result) (counted_by result) block.exit.now }
 {
     if lossless {
         return try_wht4(block);
@@ -60,28 +43,22 @@ pub fn try_4(block: &mut [i64], tx_type: u8, lossless: bool) -> DrivenRows
 }
 
 // 8 by 8 and more.
-pub fn try_larger(block: &mut [i64], n: u32, tx_type: u8) -> DrivenRows
+pub fn try_larger(block: &mut [i64], n: u32, tx_type: u8) -> Result<RowCount, Refusal>
     requires { (3 ≤ n) × Possible n tx_type false × (area n ≤ length block.old) }
-    ensures { Tried (record { block = block.entry.now; n = n; tx_type = tx_type; lossless = false }) result.answer result.rows.number block.exit.now }
+    ensures { Tried (record { block = block.entry.now; n = n; tx_type = tx_type; lossless = false }) (answered_by result) (counted_by result) block.exit.now }
 {
     let n0 = answers::side(n);
     if dc::only_dc(block, n0 * n0, tx_type) {
         if dc::is_beyond(block[0]) {
-            return refused(Answer::Coefficient);
+            return Err(Refusal::Coefficient);
         }
         dc::dc_fill(block, n, n0 * n0);
-        return DrivenRows {
-            answer: Answer::Done,
-            rows: row_pass::no_rows(),
-        };
+        return Ok(row_pass::no_rows());
     }
     if !dc::within(block, n0 * n0) {
-        return refused(Answer::Coefficient);
+        return Err(Refusal::Coefficient);
     }
-    DrivenRows {
-        answer: Answer::Done,
-        rows: passes::both_passes(block, n, tx_type),
-    }
+    Ok(passes::both_passes(block, n, tx_type))
 }
 
 // The residual of a block of 8 by 8 or more within its limit.
@@ -112,16 +89,13 @@ fn residual(block: &mut [i64], n: u32, tx_type: u8, lossless: bool) -> RowCount
 }
 
 // Any size.
-pub fn try_any(block: &mut [i64], n: u32, tx_type: u8, lossless: bool) -> DrivenRows
+pub fn try_any(block: &mut [i64], n: u32, tx_type: u8, lossless: bool) -> Result<RowCount, Refusal>
     requires { Possible n tx_type lossless × (area n ≤ length block.old) }
-    ensures { Tried (record { block = block.entry.now; n = n; tx_type = tx_type; lossless = lossless }) result.answer result.rows.number block.exit.now }
+    ensures { Tried (record { block = block.entry.now; n = n; tx_type = tx_type; lossless = lossless }) (answered_by result) (counted_by result) block.exit.now }
 {
     let count = answers::area(n);
     if !dc::within(block, count) {
-        return refused(Answer::Coefficient);
+        return Err(Refusal::Coefficient);
     }
-    DrivenRows {
-        answer: Answer::Done,
-        rows: residual(block, n, tx_type, lossless),
-    }
+    Ok(residual(block, n, tx_type, lossless))
 }

@@ -8,9 +8,8 @@ use lib.Dec.{eqb}
 use lib.IntN.{ℤ, pos}
 use lib.ListN.{length, get_or, replicate}
 use Rattle.whole.specs.Lists.{fill}
-use Rattle.answers.specs.declared.Answer.{Answer}
-use Rattle.answers.specs.declared.Answer.TheVariants.{Done, Narrow}
-use Rattle.answers.specs.Answers.{number}
+use Rattle.answers.specs.declared.Refusal.TheVariants.{Narrow}
+use Rattle.answers.specs.Answers.{Answer, number}
 use Rattle.answers.specs.Bad.{any_beyond}
 use Rattle.answers.specs.Limits.{COEF_LIMIT}
 use Rattle.answers.specs.Sizes.{side, area}

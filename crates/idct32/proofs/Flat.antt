@@ -15,7 +15,6 @@ use Rattle.whole.specs.Within.{Within}
 use Rattle.whole.proofs.Round.{round2_within}
 use Rattle.whole.proofs.Tests.{any_none, any_more}
 use Rattle.whole.proofs.Within.{within_le, within_mul, within_lit}
-use Rattle.answers.specs.declared.Answer.TheVariants.{Done}
 use Rattle.answers.specs.Limits.{COEF_LIMIT}
 use Rattle.answers.specs.Sizes.{area}
 use Rattle.steps.specs.Inner.{turned}

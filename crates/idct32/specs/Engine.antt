@@ -1,7 +1,6 @@
 -- The 32-bit engine: the condition on its block, its answer and its promise. The condition is that of the recursive process alone, row by row and then column by column.
 use Rattle.std.specs.Prelude.{◌≡◌, Bool, true, cond, not, ◌&&◌, List, [], ◌∷◌, ℕ, zero, suc, eqb, ℤ}
-use Rattle.answers.specs.declared.Answer.{Answer}
-use Rattle.answers.specs.Answers.{number, lowest}
+use Rattle.answers.specs.Answers.{Answer, number, lowest}
 use Rattle.answers.specs.Sizes.{side}
 use Rattle.blocks.specs.Block.{row, column, rows}
 use Rattle.blocks.specs.Inverse.{Pass, apply, row_pass, column_pass, inverse2d}

@@ -9,8 +9,7 @@ use lib.Dec.{ltb, eqb}
 use lib.IntN.{ℤ, pos}
 use lib.ListN.{length, get_or}
 use Rattle.whole.specs.Lists.{tabulate}
-use Rattle.answers.specs.declared.Answer.{Answer}
-use Rattle.answers.specs.Answers.{number, lowest}
+use Rattle.answers.specs.Answers.{Answer, number, lowest}
 use Rattle.answers.specs.Limits.{SIDE_LIMIT, codeable}
 use Rattle.answers.specs.Sizes.{side, area}
 use Rattle.answers.specs.Bad.{bad_depth, bad_size, bad_lossless, bad_tx_type, any_beyond}

@@ -7,8 +7,8 @@ use native.Mathlib.Omega.{arith}
 use borrow.Author.Tests.{eq-eqb}
 use lib.IntN.{ℤ, pos, nat_abs}
 use lib.ListN.{length, get_or}
-use Rattle.answers.specs.declared.Answer.{Answer}
-use Rattle.answers.specs.declared.Answer.TheVariants.{Done}
+use Rattle.std.specs.Prelude.{Ok}
+use Rattle.answers.specs.Answers.{Answer}
 use Rattle.answers.specs.Limits.{COEF_LIMIT, codeable}
 use Rattle.answers.specs.Sizes.{area}
 use Rattle.answers.specs.Bad.{bad_depth, any_beyond}
@@ -55,5 +55,5 @@ conforming_answer u c f =
     )
 
 -- the call itself: done
-pub conforming_done : (u : Input) → Called u → Conforming u → (answer : Answer) (after : List ℕ) → Reconstructed u answer after → answer ≡ Done
-conforming_done u c f answer after r = number_injective answer Done (r.answered ∙ conforming_answer u c f)
+pub conforming_done : (u : Input) → Called u → Conforming u → (answer : Answer) (after : List ℕ) → Reconstructed u answer after → answer ≡ Ok tt
+conforming_done u c f answer after r = number_injective answer (Ok tt) (r.answered ∙ conforming_answer u c f)

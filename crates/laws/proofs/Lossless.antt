@@ -11,12 +11,12 @@ use lib.Arith.{digits_div, digits_mod}
 use lib.Dec.{ltb}
 use lib.IntN.{ℤ, pos, neg_ℤ, nat_abs, ◌+ℤ◌, ◌-ℤ◌}
 use lib.ListN.{length, get_or, get_or-eq_default}
+use Rattle.std.specs.Prelude.{Ok}
 use Rattle.whole.specs.Within.{Within}
 use Rattle.whole.proofs.Lists.{length_tabulate, get_d_tabulate}
 use Rattle.whole.proofs.Parts.{sum_parts, neg_P, neg_N, eq_parts}
 use Rattle.whole.proofs.Within.{within_parts, within_zero, abs_bd}
-use Rattle.answers.specs.declared.Answer.{Answer}
-use Rattle.answers.specs.declared.Answer.TheVariants.{Done}
+use Rattle.answers.specs.Answers.{Answer}
 use Rattle.answers.specs.Limits.{COEF_LIMIT, WHT_LIMIT, SIDE_LIMIT, codeable}
 use Rattle.answers.specs.Bad.{bad_depth, bad_lossless, bad_tx_type, bad_quantizer, any_beyond}
 use Rattle.answers.proofs.Numbers.{number_injective}
@@ -249,14 +249,14 @@ module _ (c : Coded) (l : Lossless c) where
 
 -- both calls are done, and the source is there
 pub lossless_law : (c : Coded) → Lossless c → (a b : Answer) (tokens : List ℤ) (after : List ℕ)
-    → Forwarded c.differences a tokens → Reconstructed (decoding c tokens) b after → (a ≡ Done) × Restored c b after
+    → Forwarded c.differences a tokens → Reconstructed (decoding c tokens) b after → (a ≡ Ok tt) × Restored c b after
 lossless_law c l a b tokens after f r =
     let e : tokens ≡ forward_wht c.differences = f.written ∙ sym (F.done c.differences (forward_zero c l)) in
     let q : Reconstructed (decoding c (forward_wht c.differences)) b after = rw e at r in
     let m = q.written ∙ samples_are c l in (
-      number_injective a Done (f.answered ∙ forward_zero c l),
+      number_injective a (Ok tt) (f.answered ∙ forward_zero c l),
       record {
-        answered = number_injective b Done (q.answered ∙ decoded_zero c l);
+        answered = number_injective b (Ok tt) (q.answered ∙ decoded_zero c l);
         shows = λ i j s. rw m (shows c l i j s);
         others = λ k h. rw m (others c l k h);
         count = rw m (after_count c l);

@@ -8,7 +8,7 @@ use native.Mathlib.Omega.{arith}
 use lib.Dec.{eqb}
 use lib.IntN.{ℤ, pos}
 use lib.ListN.{length, get_or, get_or-eq_default}
-use Rattle.answers.specs.declared.Answer.{Answer}
+use Rattle.answers.specs.Answers.{Answer}
 use Rattle.answers.specs.Sizes.{side}
 use Rattle.answers.proofs.Numbers.{number_injective}
 use Rattle.plane.specs.declared.Plane.{Plane}

@@ -1,9 +1,8 @@
 -- Lossless coding of a 4 by 4 block: what is coded, and what comes back.
-use Rattle.std.specs.Prelude.{◌≡◌, true, false, cond, ◌&&◌, List, ℕ, ◌+◌, ◌*◌, ◌/◌, ◌%◌, ◌≤◌, ◌<◌, ltb, ℤ, pos, ◌-ℤ◌, length, get_or}
+use Rattle.std.specs.Prelude.{Ok, ◌≡◌, true, false, cond, ◌&&◌, List, ℕ, ◌+◌, ◌*◌, ◌/◌, ◌%◌, ◌≤◌, ◌<◌, ltb, ℤ, pos, ◌-ℤ◌, length, get_or}
 use Rattle.whole.specs.Lists.{tabulate}
 use Rattle.whole.specs.Within.{Within}
-use Rattle.answers.specs.declared.Answer.{Answer}
-use Rattle.answers.specs.declared.Answer.TheVariants.{Done}
+use Rattle.answers.specs.Answers.{Answer}
 use Rattle.answers.specs.Bad.{bad_depth}
 use Rattle.quant.specs.declared.DcQuant.{DcQuant}
 use Rattle.quant.specs.declared.AcQuant.{AcQuant}
@@ -68,7 +67,7 @@ decoding c tokens =
 
 -- done, the source at every sample of the block inside the plane, and no other sample moved
 pub record Restored (c : Coded) (answer : Answer) (after : List ℕ) : Type 0 where
-  pub answered : answer ≡ Done
+  pub answered : answer ≡ Ok tt
   pub shows : (i j : ℕ) → Shown c i j → get_or after (place_in c i j) 0 ≡ c.source i j
   pub others : (k : ℕ) → ((i j : ℕ) → Shown c i j → k ≡ place_in c i j → ⊥) → get_or after k 0 ≡ get_or c.samples k 0
   pub count : length after ≡ length c.samples

@@ -1,6 +1,6 @@
 -- Padded lines: two lists of samples that differ in the padding alone, and what a call must make of them.
 use Rattle.std.specs.Prelude.{◌≡◌, List, ℕ, ◌≤◌, ◌<◌, length, get_or}
-use Rattle.answers.specs.declared.Answer.{Answer}
+use Rattle.answers.specs.Answers.{Answer}
 use Rattle.plane.specs.declared.Plane.{Plane}
 use Rattle.plane.specs.Place.{column_of}
 use Rattle.reconstruct.specs.Reconstruct.{Input}

@@ -10,8 +10,7 @@ use lib.Dec.{leb, eqb}
 use lib.IntN.{ℤ, pos, negsuc}
 use lib.ListN.{get_or, take}
 use Rattle.whole.specs.Steps.{run}
-use Rattle.answers.specs.declared.Answer.{Answer}
-use Rattle.answers.specs.Answers.{number}
+use Rattle.answers.specs.Answers.{Answer, number}
 use Rattle.answers.specs.Sizes.{side}
 use Rattle.steps.specs.Step.{step}
 use Rattle.steps.specs.Step2.{Arrays, step2, fresh}

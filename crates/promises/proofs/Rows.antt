@@ -7,9 +7,8 @@ use borrow.Author.Tests.{ltb-true, ltb-false, lt-ltb, le-ltb}
 use lib.Dec.{ltb, eqb}
 use lib.IntN.{ℤ, nat_abs}
 use lib.ListN.{length}
-use Rattle.answers.specs.declared.Answer.{Answer}
-use Rattle.answers.specs.declared.Answer.TheVariants.{Size, Length}
-use Rattle.answers.specs.Answers.{number, lowest}
+use Rattle.answers.specs.declared.Refusal.TheVariants.{Size, Length}
+use Rattle.answers.specs.Answers.{Answer, number, lowest}
 use Rattle.answers.specs.Limits.{COEF_LIMIT, codeable}
 use Rattle.answers.specs.Sizes.{side, area}
 use Rattle.answers.specs.Bad.{bad_depth, bad_size, bad_side, bad_quantizer, bad_room}

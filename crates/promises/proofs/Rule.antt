@@ -8,8 +8,7 @@ use native.Mathlib.Omega.{arith}
 use borrow.Author.Tests.{ltb-true, lt-ltb}
 use lib.Dec.{ltb}
 use lib.IntN.{ℤ}
-use Rattle.answers.specs.declared.Answer.{Answer}
-use Rattle.answers.specs.Answers.{number}
+use Rattle.answers.specs.Answers.{Answer, number}
 use Rattle.answers.proofs.Numbers.{Applies, there}
 use Rattle.fwd_transform.specs.Quantize as Q
 use Rattle.promises.specs.Exactly.{InOrder}

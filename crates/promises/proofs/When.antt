@@ -7,8 +7,7 @@ use borrow.Author.Tests.{ltb-true, ltb-false, lt-ltb, le-ltb, eqb-true, eq-eqb}
 use lib.Dec.{ltb, eqb}
 use lib.IntN.{ℤ}
 use lib.ListN.{length}
-use Rattle.answers.specs.declared.Answer.{Answer}
-use Rattle.answers.specs.Answers.{number}
+use Rattle.answers.specs.Answers.{Answer, number}
 use Rattle.answers.specs.Limits.{COEF_LIMIT, WHT_LIMIT, SIDE_LIMIT, LIST_LIMIT, codeable}
 use Rattle.answers.specs.Bad.{bad_depth, retired, bad_size, bad_side, bad_room, bad_lossless, bad_tx_type, bad_quantizer, any_beyond}
 use Rattle.answers.proofs.Numbers.{Applies, there}

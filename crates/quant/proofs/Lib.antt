@@ -8,3 +8,4 @@ pub mod Worse
 pub mod Halves
 pub mod Machine
 pub mod Sixteen
+pub mod Places

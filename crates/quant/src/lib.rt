@@ -1,8 +1,9 @@
 #![tactic(auto)]
 
-ghost use Rattle.std.specs.Prelude.{false, ◌≡◌, min, ◌*◌, ◌^◌, ◌≤◌, pos, nat_abs};
+ghost use Rattle.std.specs.Prelude.{false, ◌≡◌, ◌||◌, min, ◌*◌, ◌^◌, ◌≤◌, pos, nat_abs};
 ghost use Rattle.std.specs.Int.Signed.{quot_z};
 ghost use Rattle.answers.specs.Bad.{bad_quantizer};
+ghost use Rattle.quant.specs.Places.{quantizer_at};
 ghost use Rattle.answers.specs.Limits.{codeable};
 ghost use Rattle.quant.specs.Token.{dq_denom, dequant, short, with_sign, quantize};
 
@@ -72,16 +73,6 @@ fn short(rule: u32) -> u64
     1
 }
 
-// The smaller of the two.
-pub fn least(a: u64, b: u64) -> u64
-    ensures { result ≡ min a b }
-{
-    if a < b {
-        return a;
-    }
-    b
-}
-
 // A token's magnitude with the coefficient's sign.
 fn with_sign(coef: i64, m: u64) -> i64
     requires { m ≤ codeable 12 }
@@ -94,104 +85,64 @@ fn with_sign(coef: i64, m: u64) -> i64
     token
 }
 
-impl DcQuant {
-    // Outside 1 to 32,767.
-    pub fn bad(self) -> bool
-        ensures { result ≡ bad_quantizer self.0 }
-    {
-        let dc = self.0;
-        if dc < 1 {
-            return true;
-        }
-        QUANT_LIMIT < dc
+// A quantizer outside 1 to 32,767.
+pub fn bad_quantizer(quantizer: i32) -> bool
+    ensures { result ≡ bad_quantizer quantizer }
+{
+    if quantizer < 1 {
+        return true;
     }
-
-    // The coefficient of a token.
-    pub fn dequant(self, token: i64, size: u32) -> i64
-        requires { (bad_quantizer self.0 ≡ false) × (nat_abs token ≤ codeable 12) }
-        ensures { result ≡ dequant size self.0 token }
-    {
-        let dc = self.0;
-        divided(token * (dc as i64), size)
-    }
-
-    // The same where the coefficient is of 16 bits.
-    pub fn dequant16(self, token: i64, size: u32) -> i16
-        requires { (bad_quantizer self.0 ≡ false) × (nat_abs token ≤ 32767) × (nat_abs token * nat_abs self.0 ≤ 32767 * dq_denom size) }
-        ensures { result ≡ dequant size self.0 token }
-    {
-        let dc = self.0;
-        coefficient16(token as i16, dc as i16, size)
-    }
-
-    // The products of magnitudes that add up to `sum`, added up.
-    pub fn weight(self, sum: u64) -> u64
-        requires { (bad_quantizer self.0 ≡ false) × (sum ≤ 2 ^ 24) }
-        ensures { (result ≡ sum * nat_abs self.0) × (result ≤ 2 ^ 39) }
-    {
-        let dc = self.0;
-        sum * (dc as u64)
-    }
-
-    // The token of a coefficient under a rule, at most `most` in magnitude.
-    pub fn quantize(self, coef: i64, size: u32, most: u64, rule: u32) -> i64
-        requires { (bad_quantizer self.0 ≡ false) × (nat_abs coef ≤ 2 ^ 31) × (most ≤ codeable 12) }
-        ensures { result ≡ quantize rule size most self.0 coef }
-    {
-        let signed = self.0;
-        let dc = signed as u64;
-        let a = widened(coef, size);
-        with_sign(coef, least(most, (2 * a + (dc - short(rule))) / (2 * dc)))
-    }
+    QUANT_LIMIT < quantizer
 }
 
-impl AcQuant {
-    // Outside 1 to 32,767.
-    pub fn bad(self) -> bool
-        ensures { result ≡ bad_quantizer self.0 }
-    {
-        let ac = self.0;
-        if ac < 1 {
-            return true;
-        }
-        QUANT_LIMIT < ac
-    }
+// One of the two is.
+pub fn bad_quantizers(dc_quant: DcQuant, ac_quant: AcQuant) -> bool
+    ensures { result ≡ bad_quantizer dc_quant.0 || bad_quantizer ac_quant.0 }
+{
+    bad_quantizer(dc_quant.0) || bad_quantizer(ac_quant.0)
+}
 
-    // The coefficient of a token.
-    pub fn dequant(self, token: i64, size: u32) -> i64
-        requires { (bad_quantizer self.0 ≡ false) × (nat_abs token ≤ codeable 12) }
-        ensures { result ≡ dequant size self.0 token }
-    {
-        let ac = self.0;
-        divided(token * (ac as i64), size)
+// The quantizer of a place: DC for place 0, AC for all others.
+pub fn quantizer_at(place: usize, dc_quant: DcQuant, ac_quant: AcQuant) -> i32
+    ensures { result ≡ quantizer_at dc_quant ac_quant place }
+{
+    if place == 0 {
+        return dc_quant.0;
     }
+    ac_quant.0
+}
 
-    // The same where the coefficient is of 16 bits.
-    pub fn dequant16(self, token: i64, size: u32) -> i16
-        requires { (bad_quantizer self.0 ≡ false) × (nat_abs token ≤ 32767) × (nat_abs token * nat_abs self.0 ≤ 32767 * dq_denom size) }
-        ensures { result ≡ dequant size self.0 token }
-    {
-        let ac = self.0;
-        coefficient16(token as i16, ac as i16, size)
-    }
+// The coefficient of a token.
+pub fn dequant(quantizer: i32, token: i64, size: u32) -> i64
+    requires { (bad_quantizer quantizer ≡ false) × (nat_abs token ≤ codeable 12) }
+    ensures { result ≡ dequant size quantizer token }
+{
+    divided(token * (quantizer as i64), size)
+}
 
-    // The products of magnitudes that add up to `sum`, added up.
-    pub fn weight(self, sum: u64) -> u64
-        requires { (bad_quantizer self.0 ≡ false) × (sum ≤ 2 ^ 24) }
-        ensures { (result ≡ sum * nat_abs self.0) × (result ≤ 2 ^ 39) }
-    {
-        let ac = self.0;
-        sum * (ac as u64)
-    }
+// The same where the coefficient is of 16 bits.
+pub fn dequant16(quantizer: i32, token: i64, size: u32) -> i16
+    requires { (bad_quantizer quantizer ≡ false) × (nat_abs token ≤ 32767) × (nat_abs token * nat_abs quantizer ≤ 32767 * dq_denom size) }
+    ensures { result ≡ dequant size quantizer token }
+{
+    coefficient16(token as i16, quantizer as i16, size)
+}
 
-    // The token of a coefficient under a rule, at most `most` in magnitude.
-    pub fn quantize(self, coef: i64, size: u32, most: u64, rule: u32) -> i64
-        requires { (bad_quantizer self.0 ≡ false) × (nat_abs coef ≤ 2 ^ 31) × (most ≤ codeable 12) }
-        ensures { result ≡ quantize rule size most self.0 coef }
-    {
-        let signed = self.0;
-        let ac = signed as u64;
-        let a = widened(coef, size);
-        with_sign(coef, least(most, (2 * a + (ac - short(rule))) / (2 * ac)))
-    }
+// The products of magnitudes that add up to `sum`, added up.
+pub fn weight(quantizer: i32, sum: u64) -> u64
+    requires { (bad_quantizer quantizer ≡ false) × (sum ≤ 2 ^ 24) }
+    ensures { (result ≡ sum * nat_abs quantizer) × (result ≤ 2 ^ 39) }
+{
+    sum * (quantizer as u64)
+}
+
+// The token of a coefficient under a rule, at most `most` in magnitude.
+pub fn quantize(quantizer: i32, coef: i64, size: u32, most: u64, rule: u32) -> i64
+    requires { (bad_quantizer quantizer ≡ false) × (nat_abs coef ≤ 2 ^ 31) × (most ≤ codeable 12) }
+    ensures { result ≡ quantize rule size most quantizer coef }
+{
+    let q = quantizer as u64;
+    let a = widened(coef, size);
+    let nearest = (2 * a + (q - short(rule))) / (2 * q);
+    with_sign(coef, most.min(nearest))
 }

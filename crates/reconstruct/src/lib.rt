@@ -14,7 +14,7 @@ ghost use Rattle.residual16.specs.Inner.{Lent};
 ghost use Rattle.reconstruct.specs.Inner.{Accepted, Sound, Checked, Tried};
 ghost use Rattle.reconstruct.specs.Reconstruct.{largest, added, Reconstructed};
 
-use answers::{Answer, code, side};
+use answers::{Answer, side};
 use plane::Plane;
 use quant::{AcQuant, DcQuant};
 
@@ -132,21 +132,18 @@ fn add_checked(
     requires { SamplesOf plane samples.old × Sound size dc_quant ac_quant tx_type lossless bit_depth tokens.now }
     ensures { Checked plane x y size dc_quant ac_quant tx_type lossless bit_depth tokens.now samples.old (number result) samples.new }
 {
-    let answer = tokens::check_tokens(tokens, size, dc_quant, ac_quant, bit_depth);
-    if code(answer) != 0 {
-        return answer;
-    }
+    tokens::check_tokens(tokens, size, dc_quant, ac_quant, bit_depth)?;
     let top = largest(bit_depth);
     if size == 0 {
         add_4(
             samples, plane, x, y, tokens, dc_quant, ac_quant, tx_type, lossless, top,
         );
-        return answer;
+        return Ok(());
     }
     add_wide(
         samples, plane, x, y, size, tokens, dc_quant, ac_quant, tx_type, top,
     );
-    answer
+    Ok(())
 }
 
 // Tokens of 8 by 8 and more by numbers of 16 bits, which need no look at the limits: none is near to one. False where they are too few bits, and
@@ -227,7 +224,7 @@ pub fn reconstruct_block(
 ) -> Answer
     ensures { Reconstructed (record { samples = samples.entry.now; plane = plane; x = x; y = y; size = tx_sz; tokens = tokens.now; dc = dc_quant; ac = ac_quant; tx_type = tx_type; lossless = lossless; depth = bit_depth }) result samples.exit.now }
 {
-    let shape = tokens::check(
+    tokens::check(
         samples.len(),
         plane,
         tx_sz,
@@ -237,10 +234,7 @@ pub fn reconstruct_block(
         tx_type,
         lossless,
         bit_depth,
-    );
-    if code(shape) != 0 {
-        return shape;
-    }
+    )?;
     if tx_sz == 0 {
         return add_checked(
             samples, plane, x, y, 0, tokens, dc_quant, ac_quant, tx_type, lossless, bit_depth,
@@ -258,7 +252,7 @@ pub fn reconstruct_block(
         tx_type,
         largest(bit_depth),
     ) {
-        return shape;
+        return Ok(());
     }
     add_checked(
         samples, plane, x, y, tx_sz, tokens, dc_quant, ac_quant, tx_type, false, bit_depth,

@@ -14,7 +14,7 @@ use lib.ListN.{length, get_or}
 use Rattle.whole.specs.Tests.{any_below}
 use Rattle.whole.proofs.Lists.{get_d_tabulate}
 use Rattle.whole.proofs.Tests.{any_at, any_none, any_more}
-use Rattle.answers.specs.declared.Answer.{Answer}
+use Rattle.answers.specs.Answers.{Answer}
 use Rattle.answers.specs.Limits.{codeable}
 use Rattle.report.specs.Classes.{in_class, sum_below, share, shares, one, itself}
 use Rattle.report.proofs.OneClass.{shares_none, shares_more, sum_plus, sum_same, all_counted}

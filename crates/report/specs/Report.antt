@@ -2,8 +2,7 @@
 use Rattle.std.specs.Prelude.{◌≡◌, Bool, cond, ◌||◌, List, [], ◌∷◌, ℕ, ◌+◌, ◌*◌, ◌/◌, ◌%◌, ltb, eqb, ℤ, length, get_or}
 use Rattle.whole.specs.Lists.{tabulate}
 use Rattle.whole.specs.Tests.{any_below}
-use Rattle.answers.specs.declared.Answer.{Answer}
-use Rattle.answers.specs.Answers.{number, lowest}
+use Rattle.answers.specs.Answers.{Answer, number, lowest}
 use Rattle.answers.specs.Limits.{codeable}
 use Rattle.reconstruct.specs.Reconstruct as R
 use Rattle.report.specs.Classes.{CLASSES, sum_below, shares, one, itself}

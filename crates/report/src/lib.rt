@@ -8,7 +8,7 @@ ghost use Rattle.reconstruct.specs.Reconstruct.{answer_of};
 ghost use Rattle.report.specs.Report.{total, bad_total, bad_sums, Reported};
 ghost use Rattle.report.specs.Inner.{or_fifteen};
 
-use answers::{Answer, code};
+use answers::{Answer, Refusal};
 use plane::Plane;
 use quant::{AcQuant, DcQuant};
 
@@ -80,7 +80,7 @@ fn refused(
 ) -> Answer
     ensures { (number result ≡ or_fifteen (answer_of (record { samples = samples.entry.now; plane = plane; x = 0; y = 0; size = tx_sz; tokens = tokens.now; dc = dc_quant; ac = ac_quant; tx_type = tx_type; lossless = lossless; depth = bit_depth }))) × (samples.exit.now ≡ samples.entry.now) }
 {
-    let own = reconstruct::reconstruct_block(
+    reconstruct::reconstruct_block(
         samples,
         plane,
         plane.width,
@@ -92,11 +92,8 @@ fn refused(
         tx_type,
         lossless,
         bit_depth,
-    );
-    if code(own) != 0 {
-        return own;
-    }
-    Answer::Report
+    )?;
+    Err(Refusal::Report)
 }
 
 // `reconstruct_block`, and every token of a block that is done counted in its size and class. Refused, nothing is changed.
@@ -125,9 +122,7 @@ pub fn reconstruct_block_report(
     let answer = reconstruct::reconstruct_block(
         samples, plane, x, y, tx_sz, tokens, dc_quant, ac_quant, tx_type, lossless, bit_depth,
     );
-    if code(answer) != 0 {
-        return answer;
-    }
+    answer?;
     count::count_tokens(counts, sums, tx_sz, tokens);
-    answer
+    Ok(())
 }

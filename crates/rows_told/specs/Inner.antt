@@ -1,9 +1,7 @@
 -- What only the contracts of inner functions read.
-use Rattle.std.specs.Prelude.{ℕ}
-use Rattle.summary.specs.declared.Row.{Row}
-use Rattle.summary.specs.declared.Row.TheVariants.{None, At}
+use Rattle.std.specs.Prelude.{ℕ, Option, Some, None}
 
 -- the place of a row, 0 where there is none
-abbrev pub place_of : Row → ℕ
+abbrev pub place_of : Option ℕ → ℕ
 place_of None = 0
-place_of (At i) = i
+place_of (Some i) = i

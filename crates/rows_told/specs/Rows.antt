@@ -1,9 +1,7 @@
 -- A row of a summary as C is told it.
-use Rattle.std.specs.Prelude.{ℕ, ℤ, pos, negsuc}
-use Rattle.summary.specs.declared.Row.{Row}
-use Rattle.summary.specs.declared.Row.TheVariants.{None, At}
+use Rattle.std.specs.Prelude.{ℕ, ℤ, pos, negsuc, Option, Some, None}
 
 -- a row as C has it: −1 where there is none
-abbrev pub row_number : Row → ℤ
+abbrev pub row_number : Option ℕ → ℤ
 row_number None = negsuc 0
-row_number (At i) = pos i
+row_number (Some i) = pos i

@@ -10,9 +10,8 @@ use lib.Dec.{ltb, eqb}
 use lib.IntN.{ℤ, nat_abs}
 use lib.ListN.{length, set}
 use lib.Pow.{pow_mono, pow_pos}
-use Rattle.answers.specs.declared.Answer.{Answer}
-use Rattle.answers.specs.declared.Answer.TheVariants.{Done}
-use Rattle.answers.specs.Answers.{number}
+use Rattle.std.specs.Prelude.{Ok}
+use Rattle.answers.specs.Answers.{Answer, number}
 use Rattle.answers.specs.Bad.{bad_depth, bad_size, bad_quantizer}
 use Rattle.answers.specs.Limits.{codeable}
 use Rattle.answers.specs.Sizes.{side, area}
@@ -24,15 +23,6 @@ use Rattle.summary.proofs.Bit.{still_own}
 
 never : {A : Type 0} → true ≡ false → A
 never h = absurd (let z : ◌≡◌ {A = ℕ} 0 1 = cc in omega arith)
-
--- ---- both quantizers are in range
-pub left_fine : (a b : Bool) → a || b ≡ false → a ≡ false
-left_fine true b h = never h
-left_fine false b h = refl
-
-pub right_fine : (a b : Bool) → a || b ≡ false → b ≡ false
-right_fine true b h = never h
-right_fine false b h = h
 
 -- ---- no refusal: what the passed tests leave
 pub record Accepted (u : Input) : Type 0 where
@@ -78,7 +68,7 @@ refused u a e h =
 
 -- accepted: the coefficient at its place, and the bit of its row worked out again
 pub replaced : (u : Input) (after : List ℤ) (m : ℕ) → answer_of u ≡ 0 → after ≡ set u.block u.place (coefficient u)
-    → m ≡ renewed (side (u.size + 2)) u.place after u.summary → Replaced u Done after m
+    → m ≡ renewed (side (u.size + 2)) u.place after u.summary → Replaced u (Ok tt) after m
 unfolding block_after summary_after
 replaced u after m h e f =
     let g : eqb (answer_of u) 0 ≡ true = eq-eqb (answer_of u) 0 h in

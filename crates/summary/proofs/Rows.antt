@@ -13,8 +13,7 @@ use lib.ListN.{length, length-append}
 use Rattle.whole.specs.Steps.{each, when}
 use Rattle.blocks.specs.Block.{live}
 use Rattle.blocks.proofs.Places.{le_or_lt}
-use Rattle.summary.specs.declared.Row.{Row}
-use Rattle.summary.specs.declared.Row.TheVariants.{None, At}
+use Rattle.std.specs.Prelude.{Option, Some, None}
 use Rattle.summary.specs.Summary.{those, mask, is_set, set_rows, live_rows, summary_of, first_of, last_of}
 use Rattle.summary.proofs.Digits.{digit, digits, digits_lt, digits_top, count, count_top, before, past, past_pos, set_digits, set_past, as_digits, ones_digits, trailing_digits, leading_digits, first_is, past_is}
 
@@ -123,14 +122,14 @@ unfolding set_rows
 ones_rows m h = rw (as_digits 32 m h) at (ones_digits (is_set m) 0 32) ∙ sym (those_count (is_set m) 32)
 
 -- ---- the first
-abbrev is_at : Row → ℕ
+abbrev is_at : Option ℕ → ℕ
 is_at None = 0
-is_at (At i) = 1
+is_at (Some i) = 1
 
-none_at : {f : ℕ} → None ≡ At f → ⊥
+none_at : {f : ℕ} → None ≡ Some f → ⊥
 none_at e = let z : ◌≡◌ {A = ℕ} 0 1 = ap is_at e in omega arith
 
-first_join : (xs ys : List ℕ) {f : ℕ} → first_of xs ≡ At f → first_of (xs ++ ys) ≡ At f
+first_join : (xs ys : List ℕ) {f : ℕ} → first_of xs ≡ Some f → first_of (xs ++ ys) ≡ Some f
 first_join [] ys e = absurd (none_at e)
 first_join (x ∷ xs) ys e = e
 
@@ -139,7 +138,7 @@ unfolding those each
 none_those p zero f = refl
 none_those p (suc n) f = those_no p n (f n (omega arith)) ∙ none_those p n (λ k l. f k (omega arith))
 
-first_those : (p : ℕ → Bool) (n f : ℕ) → f < n → p f ≡ true → ((k : ℕ) → k < f → p k ≡ false) → first_of (those p n) ≡ At f
+first_those : (p : ℕ → Bool) (n f : ℕ) → f < n → p f ≡ true → ((k : ℕ) → k < f → p k ≡ false) → first_of (those p n) ≡ Some f
 first_those p zero f l e g = absurd (omega arith)
 first_those p (suc n) f l e g = ⊎_elim
     (λ (q : f ≡ n). let g' : (k : ℕ) → k < n → p k ≡ false = rw q at g in
@@ -149,12 +148,12 @@ first_those p (suc n) f l e g = ⊎_elim
     (NatL.eq-or-lt_of_le (omega arith))
 
 -- ---- the last
-last_end : (xs : List ℕ) (n : ℕ) → last_of (xs ++ (n ∷ [])) ≡ At n
+last_end : (xs : List ℕ) (n : ℕ) → last_of (xs ++ (n ∷ [])) ≡ Some n
 last_end [] n = refl
 last_end (x ∷ []) n = refl
 last_end (x ∷ (y ∷ xs)) n = last_end (y ∷ xs) n
 
-last_those : (p : ℕ → Bool) (n k : ℕ) → k < n → p k ≡ true → ((j : ℕ) → suc k ≤ j → j < n → p j ≡ false) → last_of (those p n) ≡ At k
+last_those : (p : ℕ → Bool) (n k : ℕ) → k < n → p k ≡ true → ((j : ℕ) → suc k ≤ j → j < n → p j ≡ false) → last_of (those p n) ≡ Some k
 last_those p zero k l e g = absurd (omega arith)
 last_those p (suc n) k l e g = ⊎_elim
     (λ (q : k ≡ n). let e' : p n ≡ true = rw q at e in rw (those_yes p n e', q) (last_end (those p n) n))
@@ -185,7 +184,7 @@ module _ (m : ℕ) (some : 0 < m) (h : m < 2 ^ 32) where
       let e : suc (top - 1) ≡ top = omega arith in
       rw (NatL.zero-add (top - 1)) at ((past_is (is_set m) 0 32).0 (top - 1) e)
 
-  pub last_rows : At (31 - count_leading_zeros 32 m) ≡ last_of (set_rows m)
+  pub last_rows : Some (31 - count_leading_zeros 32 m) ≡ last_of (set_rows m)
   unfolding set_rows top
   last_rows =
       let z = top_pos in
@@ -211,7 +210,7 @@ module _ (m : ℕ) (some : 0 < m) (h : m < 2 ^ 32) where
       contrary : true ≡ false → ⊥
       contrary e = let z : ◌≡◌ {A = ℕ} 0 1 = cc in omega arith
 
-  pub first_rows : At (count_trailing_zeros 32 m) ≡ first_of (set_rows m)
+  pub first_rows : Some (count_trailing_zeros 32 m) ≡ first_of (set_rows m)
   unfolding set_rows trail
   first_rows =
       let e : count_trailing_zeros 32 m ≡ trail = rw (as_digits 32 m h) at (trailing_digits (is_set m) 0 32) in

@@ -1,7 +1,6 @@
 -- One token of a block replaced: the answer, the block and its summary afterwards.
 use Rattle.std.specs.Prelude.{◌≡◌, Bool, cond, not, ◌||◌, List, [], ◌∷◌, ℕ, ◌+◌, ◌*◌, ◌/◌, ltb, eqb, ℤ, nat_abs, length, set}
-use Rattle.answers.specs.declared.Answer.{Answer}
-use Rattle.answers.specs.Answers.{number, lowest}
+use Rattle.answers.specs.Answers.{Answer, number, lowest}
 use Rattle.answers.specs.Limits.{COEF_LIMIT, codeable}
 use Rattle.answers.specs.Sizes.{side, area}
 use Rattle.answers.specs.Bad.{bad_depth, bad_size, bad_quantizer}

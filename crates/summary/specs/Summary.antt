@@ -1,14 +1,11 @@
 -- The row summary of a block: a number whose bit i is set where row i has a number that is not 0. What is asked of it, and the full scan that it stands for.
-use Rattle.std.specs.Prelude.{Bool, cond, List, [], ◌∷◌, ℕ, ◌+◌, ◌*◌, ◌/◌, ◌%◌, ◌^◌, eqb, ℤ, length}
+use Rattle.std.specs.Prelude.{Bool, cond, List, [], ◌∷◌, ℕ, ◌+◌, ◌*◌, ◌/◌, ◌%◌, ◌^◌, eqb, ℤ, length, Option, Some, None, Result, Ok, Err}
 use Rattle.whole.specs.Steps.{each, when}
-use Rattle.answers.specs.declared.Answer.TheVariants.{Size, Length}
+use Rattle.answers.specs.declared.Refusal.{Refusal}
+use Rattle.answers.specs.declared.Refusal.TheVariants.{Size, Length}
 use Rattle.answers.specs.Bad.{bad_side, bad_room}
 use Rattle.answers.specs.Sizes.{side}
 use Rattle.blocks.specs.Block.{live}
-use Rattle.summary.specs.declared.Row.{Row}
-use Rattle.summary.specs.declared.Row.TheVariants.{None, At}
-use Rattle.summary.specs.declared.RowSummary.{RowSummary}
-use Rattle.summary.specs.declared.RowSummary.TheVariants.{Rows, Refused}
 
 -- of 0, 1, .., n - 1 those that have p, in this order
 unfoldable pub those : (ℕ → Bool) → ℕ → List ℕ
@@ -36,16 +33,16 @@ unfoldable pub summary_of : ℕ → List ℤ → ℕ
 summary_of n0 s = mask (live_rows n0 s)
 
 -- the first of a list of rows; an empty one has none
-abbrev pub first_of : List ℕ → Row
+abbrev pub first_of : List ℕ → Option ℕ
 first_of [] = None
-first_of (i ∷ is) = At i
+first_of (i ∷ is) = Some i
 
 -- the last
-abbrev pub last_of : List ℕ → Row
+abbrev pub last_of : List ℕ → Option ℕ
 last_of [] = None
-last_of (i ∷ []) = At i
+last_of (i ∷ []) = Some i
 last_of (i ∷ (j ∷ is)) = last_of (j ∷ is)
 
 -- what row_summary gives: 2, 6, or the summary
-unfoldable pub summarized : ℕ → List ℤ → RowSummary
-summarized n s = cond (bad_side n) (Refused Size) (cond (bad_room (length s) n) (Refused Length) (Rows (summary_of (side n) s)))
+unfoldable pub summarized : ℕ → List ℤ → Result ℕ Refusal
+summarized n s = cond (bad_side n) (Err Size) (cond (bad_room (length s) n) (Err Length) (Ok (summary_of (side n) s)))

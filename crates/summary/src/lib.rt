@@ -10,22 +10,8 @@ ghost use Rattle.quant.specs.Token.{dequant};
 ghost use Rattle.summary.specs.Summary.{is_set, set_rows, summary_of, first_of, last_of, summarized};
 ghost use Rattle.summary.specs.Replace.{answer_of, with_bit, renewed, Replaced};
 
-use answers::Answer;
+use answers::{Answer, Refusal};
 use quant::{AcQuant, DcQuant};
-
-// What row_summary gives: bit i of Rows is set where row i has a number that is not 0.
-#[derive(Clone, Copy)]
-pub enum RowSummary {
-    Rows(u32),
-    Refused(Answer),
-}
-
-// The first or the last row of a summary; an empty one has none.
-#[derive(Clone, Copy)]
-pub enum Row {
-    None,
-    At(u32),
-}
 
 // Whether some of n numbers from `start` on, a long row, is not 0: the first two are asked by themselves, because a live row mostly begins with
 // one of them. The first alone would be a branch that goes either way in a sparse block.
@@ -64,42 +50,44 @@ pub fn scan(block: &[i64], n0: usize) -> u32
     summary
 }
 
-// The summary of the block of n0 by n0 numbers at the front of the list.
-pub fn row_summary(block: &[i64], n: u32) -> RowSummary
+// The summary of the block of n0 by n0 numbers at the front of the list: bit i is set where row i has a number that is not 0.
+pub fn row_summary(block: &[i64], n: u32) -> Result<u32, Refusal>
     ensures { result ≡ summarized n block.now }
 {
     if answers::bad_side(n) {
-        return RowSummary::Refused(Answer::Size);
+        return Err(Refusal::Size);
     }
     if block.len() < answers::area(n) {
-        return RowSummary::Refused(Answer::Length);
+        return Err(Refusal::Length);
     }
-    RowSummary::Rows(scan(block, answers::side(n)))
+    Ok(scan(block, answers::side(n)))
 }
 
 // How many rows.
 pub fn row_count(summary: u32) -> u32
     ensures { result ≡ length (set_rows summary) }
 {
-    u32::count_ones(summary)
+    summary.count_ones()
 }
 
-pub fn first_row(summary: u32) -> Row
+// The first row of a summary; an empty one has none.
+pub fn first_row(summary: u32) -> Option<u32>
     ensures { result ≡ first_of (set_rows summary) }
 {
     if summary == 0 {
-        return Row::None;
+        return None;
     }
-    Row::At(u32::trailing_zeros(summary))
+    Some(summary.trailing_zeros())
 }
 
-pub fn last_row(summary: u32) -> Row
+// The last row.
+pub fn last_row(summary: u32) -> Option<u32>
     ensures { result ≡ last_of (set_rows summary) }
 {
     if summary == 0 {
-        return Row::None;
+        return None;
     }
-    Row::At(31 - u32::leading_zeros(summary))
+    Some(31 - summary.leading_zeros())
 }
 
 // Whether bit i is set.
@@ -135,10 +123,7 @@ fn coefficient(place: usize, token: i64, size: u32, dc_quant: DcQuant, ac_quant:
     requires { (bad_quantizer dc_quant.0 || bad_quantizer ac_quant.0 ≡ false) × (nat_abs token ≤ codeable 12) }
     ensures { result ≡ dequant size (quantizer_at dc_quant ac_quant place) token }
 {
-    if place == 0 {
-        return dc_quant.dequant(token, size);
-    }
-    ac_quant.dequant(token, size)
+    quant::dequant(quant::quantizer_at(place, dc_quant, ac_quant), token, size)
 }
 
 // A token's magnitude above the depth's limit.
@@ -164,16 +149,6 @@ fn bad_coefficient(
     answers::COEF_LIMIT < answers::magnitude(coef)
 }
 
-// A quantizer outside its range.
-fn bad_quantizers(dc_quant: DcQuant, ac_quant: AcQuant) -> bool
-    ensures { result ≡ bad_quantizer dc_quant.0 || bad_quantizer ac_quant.0 }
-{
-    if dc_quant.bad() {
-        return true;
-    }
-    ac_quant.bad()
-}
-
 // The answer of a replacement; the summary has no part in it.
 fn check(
     block: &[i64],
@@ -187,28 +162,28 @@ fn check(
     ensures { number result ≡ answer_of (record { block = block.entry.now; summary = 0; size = tx_sz; place = place; token = token; dc = dc_quant; ac = ac_quant; depth = bit_depth }) }
 {
     if answers::bad_depth(bit_depth) {
-        return Answer::Depth;
+        return Err(Refusal::Depth);
     }
     if answers::bad_size(tx_sz) {
-        return Answer::Size;
+        return Err(Refusal::Size);
     }
-    if bad_quantizers(dc_quant, ac_quant) {
-        return Answer::Quantizer;
+    if quant::bad_quantizers(dc_quant, ac_quant) {
+        return Err(Refusal::Quantizer);
     }
     let count = answers::area(tx_sz + 2);
     if block.len() != count {
-        return Answer::Length;
+        return Err(Refusal::Length);
     }
     if count <= place {
-        return Answer::Place;
+        return Err(Refusal::Place);
     }
     if bad_token(token, bit_depth) {
-        return Answer::Token;
+        return Err(Refusal::Token);
     }
     if bad_coefficient(place, token, tx_sz, dc_quant, ac_quant) {
-        return Answer::Coefficient;
+        return Err(Refusal::Coefficient);
     }
-    Answer::Done
+    Ok(())
 }
 
 // The coefficient of the new token to its place, and the bit of its row worked out again.
@@ -224,12 +199,9 @@ pub fn replace_token(
 ) -> Answer
     ensures { Replaced (record { block = block.entry.now; summary = summary.old; size = tx_sz; place = place; token = token; dc = dc_quant; ac = ac_quant; depth = bit_depth }) result block.exit.now summary.new }
 {
-    let answer = check(block, tx_sz, place, token, dc_quant, ac_quant, bit_depth);
-    if answers::code(answer) != 0 {
-        return answer;
-    }
+    check(block, tx_sz, place, token, dc_quant, ac_quant, bit_depth)?;
     let coef = coefficient(place, token, tx_sz, dc_quant, ac_quant);
     block[place] = coef;
     *summary = renewed(block, answers::side(tx_sz + 2), place, *summary);
-    Answer::Done
+    Ok(())
 }

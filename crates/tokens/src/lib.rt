@@ -12,21 +12,11 @@ ghost use Rattle.tokens.specs.Inner.{Bounds, SmallTokens, any_above, shape_of, t
 ghost use Rattle.tokens.specs.Tokens.{bad_quantizers, bad_plane};
 
 use answers::{
-    Answer, COEF_LIMIT, SIDE_LIMIT, any_beyond, area, bad_depth, bad_lossless, bad_size,
+    Answer, COEF_LIMIT, Refusal, SIDE_LIMIT, any_beyond, area, bad_depth, bad_lossless, bad_size,
     bad_tx_type, magnitude,
 };
 use plane::Plane;
-use quant::{AcQuant, DcQuant, least, max_codeable_coef};
-
-// A quantizer outside its range.
-fn bad_quantizers(dc_quant: DcQuant, ac_quant: AcQuant) -> bool
-    ensures { result ≡ bad_quantizers dc_quant ac_quant }
-{
-    if dc_quant.bad() {
-        return true;
-    }
-    ac_quant.bad()
-}
+use quant::{AcQuant, DcQuant, bad_quantizers, dequant, max_codeable_coef, quantizer_at};
 
 // A stride below the width, a stride or a side above its limit, or samples not exactly stride × height. A width above the limit is one of the first two.
 fn bad_plane(samples: usize, plane: Plane) -> bool
@@ -62,27 +52,27 @@ pub fn check(
     ensures { number result ≡ shape_of samples plane size tokens dc_quant ac_quant tx_type lossless depth }
 {
     if bad_depth(depth) {
-        return Answer::Depth;
+        return Err(Refusal::Depth);
     }
     if bad_size(size) {
-        return Answer::Size;
+        return Err(Refusal::Size);
     }
     if bad_lossless(lossless, size) {
-        return Answer::LosslessSize;
+        return Err(Refusal::LosslessSize);
     }
     if bad_tx_type(lossless, size, tx_type) {
-        return Answer::TxType;
+        return Err(Refusal::TxType);
     }
     if bad_quantizers(dc_quant, ac_quant) {
-        return Answer::Quantizer;
+        return Err(Refusal::Quantizer);
     }
     if tokens != area(size + 2) {
-        return Answer::Length;
+        return Err(Refusal::Length);
     }
     if bad_plane(samples, plane) {
-        return Answer::Plane;
+        return Err(Refusal::Plane);
     }
-    Answer::Done
+    Ok(())
 }
 
 // The greatest magnitude of a token at place 0, and of one at any other place: two types, so that neither stands for the other.
@@ -103,20 +93,11 @@ fn largest_product(size: u32) -> u64
 }
 
 // At most `most`, and its coefficient within its limit.
-fn dc_bound(dc_quant: DcQuant, size: u32, most: u64) -> DcBound
-    requires { bad_quantizer dc_quant.0 ≡ false }
-    ensures { Bounds size dc_quant.0 most result.0 }
+fn largest_token(quantizer: i32, size: u32, most: u64) -> u64
+    requires { bad_quantizer quantizer ≡ false }
+    ensures { Bounds size quantizer most result }
 {
-    let dc = dc_quant.0;
-    DcBound(least(most, largest_product(size) / (dc as u64)))
-}
-
-fn ac_bound(ac_quant: AcQuant, size: u32, most: u64) -> AcBound
-    requires { bad_quantizer ac_quant.0 ≡ false }
-    ensures { Bounds size ac_quant.0 most result.0 }
-{
-    let ac = ac_quant.0;
-    AcBound(least(most, largest_product(size) / (ac as u64)))
+    most.min(largest_product(size) / (quantizer as u64))
 }
 
 // The bound of place k.
@@ -167,32 +148,21 @@ pub fn check_tokens(
     ensures { number result ≡ token_answer size dc_quant ac_quant depth tokens.now }
 {
     if all_small(tokens) {
-        return Answer::Done;
+        return Ok(());
     }
     let most = max_codeable_coef(depth) as u64;
     if some_above(
         tokens,
         tokens.len(),
-        dc_bound(dc_quant, size, most),
-        ac_bound(ac_quant, size, most),
+        DcBound(largest_token(dc_quant.0, size, most)),
+        AcBound(largest_token(ac_quant.0, size, most)),
     ) {
         if any_beyond(tokens, tokens.len(), most) {
-            return Answer::Token;
+            return Err(Refusal::Token);
         }
-        return Answer::Coefficient;
+        return Err(Refusal::Coefficient);
     }
-    Answer::Done
-}
-
-// The coefficient of the token at place k: DC at place 0, AC at all others.
-fn coef_at(k: usize, token: i64, size: u32, dc_quant: DcQuant, ac_quant: AcQuant) -> i64
-    requires { (bad_quantizers dc_quant ac_quant ≡ false) × (nat_abs token ≤ codeable 12) }
-    ensures { result ≡ dequant size (quantizer_at dc_quant ac_quant k) token }
-{
-    if k == 0 {
-        return dc_quant.dequant(token, size);
-    }
-    ac_quant.dequant(token, size)
+    Ok(())
 }
 
 // The coefficients of the first `count` tokens into the front of the block.
@@ -208,6 +178,6 @@ pub fn dequantize(
     ensures { block.new ≡ fill count (λ k. dequant size (quantizer_at dc_quant ac_quant k) (get_or tokens.now k (pos 0))) block.old }
 {
     for k in 0..count {
-        block[k] = coef_at(k, tokens[k], size, dc_quant, ac_quant);
+        block[k] = dequant(quantizer_at(k, dc_quant, ac_quant), tokens[k], size);
     }
 }

@@ -4,20 +4,20 @@
 ghost use Rattle.std.specs.Prelude.{◌≡◌, List, ℕ, ◌+◌, ◌*◌, ◌≤◌, ◌<◌, pos, true, length};
 ghost use Rattle.answers.specs.Answers.{number};
 ghost use Rattle.answers.specs.Limits.{FILE_LIMIT};
-ghost use Rattle.vbk_read.specs.Header.{plane_area, samples_of, header_answer, fields_of, no_fields};
-ghost use Rattle.vbk_read.specs.Records.{size_at, head_at, next_at, Recorded};
-ghost use Rattle.vbk.specs.Replay.{Reconstruction, RECORD_LIMIT, rebuild_at, record_at, records, block_of};
+ghost use Rattle.vbk_read.specs.Header.{plane_area, samples_of, header_answer, fields_of};
+ghost use Rattle.vbk_read.specs.Records.{size_at, head_at, next_at, is_found, Recorded};
+ghost use Rattle.vbk.specs.Replay.{Reconstruction, RECORD_LIMIT, touched_by, plane_of, rebuild_at, record_at, records, block_of};
 ghost use Rattle.vbk.specs.Filled.{reconstruction};
 ghost use Rattle.vbk.specs.Promises.{run_by, roomy, Played, Replayed, Printed};
 ghost use Rattle.vbk.specs.Inner.{Stepped, Ran, outcome_of};
 ghost use Rattle.vbk_text.specs.Text.{text};
 ghost use Rattle.vbk_text.specs.Inner.{Room, Put};
 
-use answers::Answer;
+use answers::{Answer, Refusal};
 use plane::Plane;
 use quant::{AcQuant, DcQuant};
 pub use touched::touched_by;
-use vbk_read::{Cursor, Fields, Head, Record};
+use vbk_read::{Fields, Head, Record};
 
 // No file has more records: the first one stands at byte 12 or later, and all but the last take 75 bytes or more.
 pub const RECORD_LIMIT: usize = 874;
@@ -32,7 +32,7 @@ pub fn number8(a: Answer) -> u8
 pub fn quantizer(q: u16) -> i32
     ensures { result ≡ pos q }
 {
-    q as i32
+    i32::from(q)
 }
 
 // What a run does with each block of a file: to the samples, and to what it keeps beside them, such as a report.
@@ -107,7 +107,14 @@ fn rebuild<B: Reconstruct>(
     blocks.block(samples, fields, head, &tokens[..n])
 }
 
-// The record's answer: that of its own checks, which change nothing, or reconstruction's.
+// What a record comes to: its answer as it is kept, and its touched count.
+#[derive(Clone, Copy)]
+struct Outcome {
+    answer: u8,
+    touched: usize,
+}
+
+// A record's answer, reconstruction's or that of its own checks, which change nothing and touch nothing.
 fn answer_record<B: Reconstruct>(
     file: &[u8],
     at: usize,
@@ -115,17 +122,21 @@ fn answer_record<B: Reconstruct>(
     fields: Fields,
     samples: &mut [u16],
     blocks: &mut B,
-) -> u8
-    requires { (fields ≡ fields_of file.now) × Recorded file.now at «record» × («record».found ≡ true) }
-    ensures answered { result ≡ (record_at B.rebuilds file.now at (B.beside samples.old blocks.old)).answer }
+) -> Outcome
+    requires { (fields ≡ fields_of file.now) × Recorded file.now at «record» × (is_found «record» ≡ true) }
+    ensures answered { result.answer ≡ (record_at B.rebuilds file.now at (B.beside samples.old blocks.old)).answer }
+    ensures touched { result.touched ≡ touched_by (record_at B.rebuilds file.now at (B.beside samples.old blocks.old)).answer (plane_of file.now) (head_at file.now at) }
     ensures written { B.beside samples.new blocks.new ≡ (record_at B.rebuilds file.now at (B.beside samples.old blocks.old)).samples }
 {
-    let checks = record.answer;
-    let own = number8(checks);
-    if own != 0 {
-        return own;
+    if let Record::Whole(head, _) = record {
+        let answer = number8(rebuild(file, at, head, fields, samples, blocks));
+        let touched = touched_by(answer, fields, head);
+        return Outcome { answer, touched };
     }
-    number8(rebuild(file, at, record.head, fields, samples, blocks))
+    Outcome {
+        answer: number8(record.answer()),
+        touched: 0,
+    }
 }
 
 // How many records were read, and the touched count.
@@ -146,15 +157,15 @@ fn one_record<B: Reconstruct>(
     tally: Tally,
     blocks: &mut B,
 ) -> Tally
-    requires { (fields ≡ fields_of file.now) × Recorded file.now at «record» × («record».found ≡ true) × (tally.count < length answers.old) × (tally.touched ≤ FILE_LIMIT) }
+    requires { (fields ≡ fields_of file.now) × Recorded file.now at «record» × (is_found «record» ≡ true) × (tally.count < length answers.old) × (tally.touched ≤ FILE_LIMIT) }
     ensures { Stepped B.rebuilds file.now at (B.beside samples.old blocks.old) answers.old tally.count tally.touched (B.beside samples.new blocks.new) answers.new result.count result.touched }
 {
-    let answer = answer_record(file, at, record, fields, samples, blocks);
+    let outcome = answer_record(file, at, record, fields, samples, blocks);
     let count = tally.count;
-    answers[count] = answer;
+    answers[count] = outcome.answer;
     Tally {
         count: count + 1,
-        touched: tally.touched + touched_by(answer, fields, record.head),
+        touched: tally.touched + outcome.touched,
     }
 }
 
@@ -175,7 +186,7 @@ fn read_records<B: Reconstruct>(
         count: 0,
         touched: 0,
     };
-    while reader.record.found {
+    while reader.record.is_found() {
         tally = one_record(
             file,
             reader.at,
@@ -208,31 +219,12 @@ fn play<B: Reconstruct>(
     read_records(file, first.at, fields, samples, answers, blocks)
 }
 
-// A run's outcome: the answer and the header, how many records were read, and the touched count.
+// A run that is not refused: the header, how many records were read, and the touched count.
 #[derive(Clone, Copy)]
 pub struct Run {
-    pub answer: Answer,
     pub fields: Fields,
     pub count: usize,
     pub touched: usize,
-}
-
-// A run that is refused: the answer, and zeros.
-pub fn refused(answer: Answer) -> Run
-    ensures { result ≡ record { answer = answer; fields = no_fields; count = 0; touched = 0 } }
-{
-    Run {
-        answer,
-        fields: Fields {
-            version: 0,
-            depth: 0,
-            width: 0,
-            height: 0,
-            next: Cursor { at: 0 },
-        },
-        count: 0,
-        touched: 0,
-    }
 }
 
 // The lent rooms hold any run's plane and answers.
@@ -243,36 +235,30 @@ fn roomy(samples: &[u16], answers: &[u8]) -> bool
 }
 
 // A run over a file, its blocks reconstructed by `blocks`: the plane is left at the front of `samples`, and every record's answer at the front
-// of `answers`.
+// of `answers`. Refused, all is as it was.
 pub fn replay_with<B: Reconstruct>(
     file: &[u8],
     samples: &mut [u16],
     answers: &mut [u8],
     blocks: &mut B,
-) -> Run
+) -> Result<Run, Refusal>
     ensures { Played B.rebuilds B.beside file.now samples.old answers.old blocks.old result samples.new answers.new blocks.new }
 {
     if !roomy(samples, answers) {
-        return refused(Answer::Length);
+        return Err(Refusal::Length);
     }
-    let h = vbk_read::read_header(file);
-    let answer = h.answer;
-    if answers::code(answer) != 0 {
-        return refused(answer);
-    }
-    let fields = h.fields;
+    let fields = vbk_read::read_header(file)?;
     let n = vbk_read::plane_area(fields.width, fields.height);
     let tally = play(file, fields, &mut samples[..n], answers, blocks);
-    Run {
-        answer,
+    Ok(Run {
         fields,
         count: tally.count,
         touched: tally.touched,
-    }
+    })
 }
 
 // A run over a file, with nothing beside the plane.
-pub fn replay(file: &[u8], samples: &mut [u16], answers: &mut [u8]) -> Run
+pub fn replay(file: &[u8], samples: &mut [u16], answers: &mut [u8]) -> Result<Run, Refusal>
     ensures { Replayed file.now samples.old answers.old result samples.new answers.new }
 {
     replay_with(file, samples, answers, &mut Alone)
@@ -286,10 +272,10 @@ fn print_run(run: Run, samples: &[u16], answers: &[u8], out: &mut [u8]) -> usize
     let fields = run.fields;
     let count = run.count;
     let n = vbk_read::plane_area(fields.width, fields.height);
-    let version = words::wide16(fields.version);
-    let depth = words::byte64(fields.depth);
-    let width = words::count16(fields.width);
-    let height = words::count16(fields.height);
+    let version = u64::from(fields.version);
+    let depth = u64::from(fields.depth);
+    let width = usize::from(fields.width);
+    let height = usize::from(fields.height);
     vbk_text::write_run(
         out,
         version,
@@ -312,11 +298,8 @@ pub fn blockrun(file: &[u8], samples: &mut [u16], answers: &mut [u8], out: &mut 
     if !roomy(samples, answers) {
         return 0;
     }
-    let run = replay(file, samples, answers);
-    let answer = run.answer;
-    let number = answers::code(answer);
-    if number != 0 {
-        return vbk_text::write_refusal(out, number as u64);
+    match replay(file, samples, answers) {
+        Ok(run) => print_run(run, samples, answers, out),
+        Err(refusal) => vbk_text::write_refusal(out, u64::from(u32::from(refusal))),
     }
-    print_run(run, samples, answers, out)
 }

@@ -1,4 +1,6 @@
 -- With the report beside the plane, the run of `vbk` keeps this call's promise.
+use Rattle.std.specs.Prelude.{Result}
+use Rattle.answers.specs.declared.Refusal.{Refusal}
 use mathlib.Core.Path.{◌≡◌, sym, ap, ◌∙◌}
 use mathlib.Core.Bool.{false, cond}
 use mathlib.Core.List.{List, ◌++◌}
@@ -16,21 +18,17 @@ use Rattle.vbk_report.specs.Promises.{ReplayedReport}
 use Rattle.vbk_report.specs.declared.Report.{Report}
 use Rattle.vbk_report.proofs.Lists.{samples_in_lem, counts_in_lem, sums_in_lem}
 
-pub with_report : {s samples answers : List ℕ} {b b' : Report} {r : Run} {samples' answers' : List ℕ} → Played report_reconstruction (λ l x. beside l x.counts x.sums) s samples answers b r samples' answers' b'
+pub with_report : {s samples answers : List ℕ} {b b' : Report} {r : Result Run Refusal} {samples' answers' : List ℕ} → Played report_reconstruction (λ l x. beside l x.counts x.sums) s samples answers b r samples' answers' b'
     → ReplayedReport s samples answers b.counts b.sums r samples' answers' b'.counts b'.sums
 unfolding report_run
 with_report {s} {samples} {answers} {b} {b'} {r} {samples'} {answers'} p =
     record {
       answered = p.answered;
-      fields_are = p.fields_are;
-      count_is = p.count_is;
-      touched_is = p.touched_is;
+      told = p.told;
       samples_are = at_zero samples (λ z. p.samples_are ∙ ap (λ (n : ℕ). cond (eqb n 0) (front ++ drop (plane_area s) samples) samples) z ∙ ap (λ (l : List ℕ). l ++ drop (plane_area s) samples) (sym (samples_in_lem front b'.counts b'.sums) ∙ ap samples_in (p.beside_is z))) (λ f. p.samples_are ∙ rw f);
       answers_are = p.answers_are;
       counts_are = at_zero b.counts (λ z. sym (counts_in_lem front b'.counts b'.sums) ∙ ap counts_in (p.beside_is z)) (λ f. ap (λ (x : Report). x.counts) (stays f));
       sums_are = at_zero b.sums (λ z. sym (sums_in_lem front b'.counts b'.sums) ∙ ap sums_in (p.beside_is z)) (λ f. ap (λ (x : Report). x.sums) (stays f));
-      count_most = p.count_most;
-      touched_most = p.touched_most;
     }
   where
     front : List ℕ

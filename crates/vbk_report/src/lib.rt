@@ -5,7 +5,7 @@ ghost use Rattle.vbk_report.specs.Lists.{beside};
 ghost use Rattle.vbk_report.specs.Run.{report_reconstruction};
 ghost use Rattle.vbk_report.specs.Promises.{ReplayedReport};
 
-use answers::Answer;
+use answers::{Answer, Refusal};
 use quant::{AcQuant, DcQuant};
 use vbk::{Reconstruct, Run};
 use vbk_read::{Fields, Head};
@@ -49,7 +49,7 @@ pub fn replay_report(
     answers: &mut [u8],
     counts: &mut [u32; 44],
     sums: &mut [u64; 44],
-) -> Run
+) -> Result<Run, Refusal>
     ensures { ReplayedReport file.now samples.old answers.old counts.old sums.old result samples.new answers.new counts.new sums.new }
 {
     let mut report = Report {

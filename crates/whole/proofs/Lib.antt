@@ -7,3 +7,4 @@ pub mod Round
 pub mod Lists
 pub mod Loops
 pub mod Steps
+pub mod Scans

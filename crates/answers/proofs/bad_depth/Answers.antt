@@ -1,19 +1,16 @@
+use mathlib.Core.Logic.{⊎_elim, inl, inr}
 use borrow.Author.Tests.{ne_eqb}
 use Rattle.answers.specs.Bad.{bad_depth}
 use Rattle.answers.proofs.bad_depth.Goals as goal
+use Rattle.answers.proofs.bad_depth.Goals.{in-8, in_default}
 
-pub returns-in-8 : goal.returns-in-8
+pub returns : goal.returns
 unfolding bad_depth
-returns-in-8 c = rw c.in-8.is
-
-pub returns-in-10 : goal.returns-in-10
-unfolding bad_depth
-returns-in-10 c = rw c.in-10.is
-
-pub returns-in-12 : goal.returns-in-12
-unfolding bad_depth
-returns-in-12 c = rw c.in-12.is
-
-pub returns-in_default : goal.returns-in_default
-unfolding bad_depth
-returns-in_default c = rw (ne_eqb _ _ c.in_default.in_default-own.rest.0.0.1, ne_eqb _ _ c.in_default.in_default-own.rest.0.1, ne_eqb _ _ c.in_default.in_default-own.rest.1)
+returns c =
+    elim c.match-matches.branch [
+      | in-8 w ↦
+          rw w.matches-is (⊎_elim (λ e. rw e) (λ r. ⊎_elim (λ e. rw e) (λ e. rw e) r) w.in-8.is)
+      | in_default w ↦
+          let no = w.in_default.in_default-own.rest.1 in
+          rw (w.matches-is, ne_eqb _ _ (λ e. no (inl e)), ne_eqb _ _ (λ e. no (inr (inl e))), ne_eqb _ _ (λ e. no (inr (inr e))))
+    ]

@@ -5,6 +5,6 @@ pub returns-then-lossless : goal.returns-then-lossless
 unfolding bad_lossless
 returns-then-lossless c = rw c.if-lossless.true
 
-pub returns : goal.returns
+pub returns-else-lossless : goal.returns-else-lossless
 unfolding bad_lossless
-returns c = rw c.if-lossless.false
+returns-else-lossless c = rw c.if-lossless.false

@@ -6,6 +6,6 @@ pub returns-then-n-lt2 : goal.returns-then-n-lt2
 unfolding bad_side
 returns-then-n-lt2 c = rw (lt-ltb _ _ c.if-n-lt2.true)
 
-pub returns : goal.returns
+pub returns-else-n-lt2 : goal.returns-else-n-lt2
 unfolding bad_side
-returns c = rw (le-ltb _ _ c.if-n-lt2.false)
+returns-else-n-lt2 c = rw (le-ltb _ _ c.if-n-lt2.false)

@@ -1,10 +1,10 @@
-use native.Mathlib.Omega.{arith}
+use mathlib.Core.Path.{refl}
+use Rattle.answers.proofs.Numbers.{refused_number}
 use Rattle.exports.proofs.Rows.{counted, not_counted}
 use Rattle.exports.proofs.bracetwill_inverse_transform_2d_rows.Goals as goal
 
-pub returns-then-number-ne0 : goal.returns-then-number-ne0
-returns-then-number-ne0 c = not_counted _ c.inverse_transform_2d_rows-driven.ensures c.code-number.ensures c.if-number-ne0.true
+pub returns-in-Ok : goal.returns-in-Ok
+returns-in-Ok c = counted _ (rw c.in-Ok.is at c.inverse_transform_2d_rows.ensures) refl c.number.ensures refl
 
-pub returns : goal.returns
-returns c =
-    counted _ c.inverse_transform_2d_rows-driven.ensures c.code-number.ensures c.number.ensures (omega arith)
+pub returns-in-Err : goal.returns-in-Err
+returns-in-Err c = ?

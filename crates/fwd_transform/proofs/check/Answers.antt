@@ -1,5 +1,5 @@
 use mathlib.Core.Path.{◌≡◌, sym, ◌∙◌}
-use mathlib.Core.Bool.{false}
+use mathlib.Core.Bool.{false, ◌||◌}
 use borrow.Author.Tests.{lt-ltb, le-ltb}
 use lib.Dec.{ltb}
 use lib.ListN.{length}
@@ -7,7 +7,7 @@ use Rattle.answers.specs.Bad.{bad_depth, retired, bad_size, bad_quantizer}
 use Rattle.answers.specs.Limits.{LIST_LIMIT}
 use Rattle.fwd_transform.specs.Quantize.{answer_of}
 use Rattle.fwd_transform.proofs.check.Goals as goal
-use Rattle.fwd_transform.proofs.check.Goals.{Else-bad, Else-bad-2, Else-bad_depth, Else-bad_size, Else-n-gt-LIST_LIMIT, Else-retired}
+use Rattle.fwd_transform.proofs.check.Goals.{Else-bad_depth, Else-bad_quantizers, Else-bad_size, Else-n-gt-LIST_LIMIT, Else-retired}
 
 -- what each passed test says
 no1 : (c : Else-bad_depth) → bad_depth c.args.depth ≡ false
@@ -19,11 +19,8 @@ kept c = sym c.retired.ensures ∙ c.if-retired.false
 no2 : (c : Else-bad_size) → bad_size c.args.size ≡ false
 no2 c = sym c.bad_size.ensures ∙ c.if-bad_size.false
 
-no3 : (c : Else-bad) → bad_quantizer c.args.dc.0 ≡ false
-no3 c = sym c.bad.ensures ∙ c.if-bad.false
-
-no4 : (c : Else-bad-2) → bad_quantizer c.args.ac.0 ≡ false
-no4 c = sym c.bad-2.ensures ∙ c.if-bad-2.false
+no3 : (c : Else-bad_quantizers) → bad_quantizer c.args.dc.0 || bad_quantizer c.args.ac.0 ≡ false
+no3 c = sym c.bad_quantizers.ensures ∙ c.if-bad_quantizers.false
 
 no5 : (c : Else-n-gt-LIST_LIMIT) → ltb LIST_LIMIT (length c.args.coefs.now) ≡ false
 no5 c = le-ltb _ _ c.if-n-gt-LIST_LIMIT.false
@@ -40,27 +37,22 @@ pub returns-then-bad_size : goal.returns-then-bad_size
 unfolding answer_of
 returns-then-bad_size c = rw (no1 c.before.before.before.before, kept c.before.before, sym c.bad_size.ensures ∙ c.if-bad_size.true)
 
-pub returns-then-bad : goal.returns-then-bad
+pub returns-then-bad_quantizers : goal.returns-then-bad_quantizers
 unfolding answer_of
-returns-then-bad c =
-    rw (no1 c.before.before.before.before.before.before, kept c.before.before.before.before, no2 c.before.before, sym c.bad.ensures ∙ c.if-bad.true)
-
-pub returns-then-bad-2 : goal.returns-then-bad-2
-unfolding answer_of
-returns-then-bad-2 c =
-    rw (no1 c.before.before.before.before.before.before.before.before, kept c.before.before.before.before.before.before, no2 c.before.before.before.before, no3 c.before.before, sym c.bad-2.ensures ∙ c.if-bad-2.true)
+returns-then-bad_quantizers c =
+    rw (no1 c.before.before.before.before.before.before, kept c.before.before.before.before, no2 c.before.before, sym c.bad_quantizers.ensures ∙ c.if-bad_quantizers.true)
 
 pub returns-then-n-gt-LIST_LIMIT : goal.returns-then-n-gt-LIST_LIMIT
 unfolding answer_of
 returns-then-n-gt-LIST_LIMIT c =
-    rw (no1 c.before.before.before.before.before.before.before.before.before, kept c.before.before.before.before.before.before.before, no2 c.before.before.before.before.before, no3 c.before.before.before, no4 c.before, lt-ltb _ _ c.if-n-gt-LIST_LIMIT.true)
+    rw (no1 c.before.before.before.before.before.before.before, kept c.before.before.before.before.before, no2 c.before.before.before, no3 c.before, lt-ltb _ _ c.if-n-gt-LIST_LIMIT.true)
 
 pub returns-then-any_beyond : goal.returns-then-any_beyond
 unfolding answer_of
 returns-then-any_beyond c =
-    rw (no1 c.before.before.before.before.before.before.before.before.before.before.before, kept c.before.before.before.before.before.before.before.before.before, no2 c.before.before.before.before.before.before.before, no3 c.before.before.before.before.before, no4 c.before.before.before, no5 c.before.before, sym c.any_beyond.ensures ∙ c.if-any_beyond.true)
+    rw (no1 c.before.before.before.before.before.before.before.before.before, kept c.before.before.before.before.before.before.before, no2 c.before.before.before.before.before, no3 c.before.before.before, no5 c.before.before, sym c.any_beyond.ensures ∙ c.if-any_beyond.true)
 
 pub returns : goal.returns
 unfolding answer_of
 returns c =
-    rw (no1 c.before.before.before.before.before.before.before.before.before.before.before, kept c.before.before.before.before.before.before.before.before.before, no2 c.before.before.before.before.before.before.before, no3 c.before.before.before.before.before, no4 c.before.before.before, no5 c.before.before, sym c.any_beyond.ensures ∙ c.if-any_beyond.false)
+    rw (no1 c.before.before.before.before.before.before.before.before.before, kept c.before.before.before.before.before.before.before, no2 c.before.before.before.before.before, no3 c.before.before.before, no5 c.before.before, sym c.any_beyond.ensures ∙ c.if-any_beyond.false)

@@ -1,10 +1,13 @@
 use mathlib.Core.Path.{◌≡◌, sym, ◌∙◌}
 use native.Mathlib.Omega.{arith}
-use Rattle.answers.specs.Answers.{number}
-use Rattle.fwd_transform.specs.Quantize.{Input, rule_answer}
+use Prim.Native.Nat.{ℕ}
+use mathlib.Core.Bool.{false}
+use Rattle.std.proofs.lemmas.Result.{err_from_is_err_and}
+use Rattle.answers.proofs.Numbers.{refused_number}
+use Rattle.fwd_transform.specs.Quantize.{Input, answer_of, bad_rule, rule_answer}
 use Rattle.fwd_transform.proofs.Quantizer.{refused, done, known, unknown, known_rest, fine}
 use Rattle.fwd_transform.proofs.quantize_block_rule.Goals as goal
-use Rattle.fwd_transform.proofs.quantize_block_rule.Goals.{After-code, Else-code-ne0, Start}
+use Rattle.fwd_transform.proofs.quantize_block_rule.Goals.{In_ok-check, Start}
 
 -- the call's input, as the definitions see it
 abbrev input : Start → Input
@@ -17,19 +20,19 @@ returns-then-bad_rule c =
     record { answered = sym e; written = refused (input c.before.before) c.args.rule (λ f. absurd (omega (arith, e, f))) }
 
 -- a known one: the answer is that of the check
-answer_is : (c : After-code) → c.code.result ≡ rule_answer c.args.rule (input c.before.before.before.before)
-answer_is c =
-    c.code.ensures ∙ c.check-answer.ensures ∙ sym (known (input c.before.before.before.before) c.args.rule (sym c.bad_rule.ensures ∙ c.if-bad_rule.false))
+module _ (s : Start) (k : bad_rule s.args.rule ≡ false) where
+  as_called : {n : ℕ} → n ≡ answer_of (input s) → n ≡ rule_answer s.args.rule (input s)
+  as_called e = e ∙ sym (known (input s) s.args.rule k)
 
-checked : (c : After-code) → number c.check-answer.result ≡ rule_answer c.args.rule (input c.before.before.before.before)
-checked c = sym c.code.ensures ∙ answer_is c
+zero_at : (c : In_ok-check) → rule_answer c.args.rule (input c.before.before.before.before.before) ≡ 0
+zero_at c = sym (as_called c.before.before.before.before.before (sym c.bad_rule.ensures ∙ c.if-bad_rule.false) c.in_ok-check.ensures)
 
-zero_at : (c : Else-code-ne0) → rule_answer c.args.rule (input c.before.before.before.before.before) ≡ 0
-zero_at c = sym (answer_is c.before) ∙ c.if-code-ne0.false
-
-pub returns-then-code-ne0 : goal.returns-then-code-ne0
-returns-then-code-ne0 c =
-    record { answered = checked c.before; written = refused (input c.before.before.before.before.before) c.args.rule (λ e. c.if-code-ne0.true (answer_is c.before ∙ e)) }
+pub returns-in_err-check : goal.returns-in_err-check
+returns-in_err-check c =
+    let p = err_from_is_err_and c.from_residual.result c.from_residual.ensures.1 in
+    let u : Input = record { coefs = c.args.coefs.now; dc = c.args.dc; ac = c.args.ac; size = c.args.size; depth = c.args.depth } in
+    let e = c.in_err-check.ensures ∙ sym (known u c.args.rule (sym c.bad_rule.ensures ∙ c.if-bad_rule.false)) in
+    rw (p.1, p.2) (record { answered = e; written = refused u c.args.rule (λ f. refused_number c.in_err-check.field-0.0 (e ∙ f)) })
 
 pub tokens_in_place-requires : goal.tokens_in_place-requires
 tokens_in_place-requires c =
@@ -38,4 +41,6 @@ tokens_in_place-requires c =
 
 pub returns : goal.returns
 returns c =
-    record { answered = checked c.before.before.before.before; written = c.tokens_in_place.ensures ∙ done (input c.before.before.before.before.before.before.before.before) c.args.rule (zero_at c.before.before.before) }
+    let u : Input = record { coefs = c.args.coefs.now; dc = c.args.dc; ac = c.args.ac; size = c.args.size; depth = c.args.depth } in
+    let e = c.in_ok-check.ensures ∙ sym (known u c.args.rule (sym c.bad_rule.ensures ∙ c.if-bad_rule.false)) in
+    record { answered = e; written = c.tokens_in_place.ensures ∙ done u c.args.rule (sym e) }

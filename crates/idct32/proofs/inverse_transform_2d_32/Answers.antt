@@ -7,7 +7,7 @@ use lib.IntN.{pos}
 use lib.ListN.{length, get_or}
 use mir.Syntax.{w16}
 use Rattle.whole.proofs.Signed.{rd_ok}
-use Rattle.answers.specs.declared.Answer.TheVariants.{Coefficient}
+use Rattle.answers.specs.declared.Refusal.TheVariants.{Coefficient}
 use Rattle.answers.specs.Answers.{number}
 use Rattle.answers.specs.Bad.{any_beyond}
 use Rattle.answers.specs.Limits.{COEF_LIMIT}

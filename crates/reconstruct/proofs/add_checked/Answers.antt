@@ -1,50 +1,39 @@
--- `reconstruct::add_checked` meets its contract.
 use mathlib.Core.Path.{◌≡◌, refl, sym, ◌∙◌}
 use mathlib.Core.Bool.{false}
 use native.Mathlib.Omega.{arith}
-use Rattle.answers.specs.Answers.{number}
+use Rattle.std.proofs.lemmas.Result.{err_from_is_err_and}
+use Rattle.answers.proofs.Numbers.{refused_number}
 use Rattle.reconstruct.specs.Inner.{Accepted}
 use Rattle.reconstruct.proofs.Residual.{not_lossless, sized_taken, lossy_taken, lossy_added, same_added}
 use Rattle.reconstruct.proofs.Table.{taken}
 use Rattle.reconstruct.proofs.add_checked.Goals as goal
-use Rattle.reconstruct.proofs.add_checked.Lts as lts
-use Rattle.reconstruct.proofs.add_checked.Tie as tie
-use Rattle.reconstruct.proofs.add_checked.Reads as reads
-
--- the place behind a step, with what was known there
-abbrev Else-code-ne0 : Type 0
-Else-code-ne0 = lts.Else1 tie.the-claims reads.Pre reads.Post
-
--- the place behind a step, with what was known there
-abbrev Else-size-eq0 : Type 0
-Else-size-eq0 = lts.Else2 tie.the-claims reads.Pre reads.Post
+use Rattle.reconstruct.proofs.add_checked.Goals.{In_ok-check_tokens, Else-size-eq0}
 
 -- the tokens are taken
-module _ (e : Else-code-ne0) where
-  zero : number e.check_tokens-answer.result ≡ 0
-  zero = sym e.code.ensures ∙ e.if-code-ne0.false
-
-  accepted : let a = e.args in Accepted a.size a.dc_quant a.ac_quant a.tx_type a.lossless a.tokens.now
+module _ (c : In_ok-check_tokens) where
+  accepted : let a = c.args in Accepted a.size a.dc_quant a.ac_quant a.tx_type a.lossless a.tokens.now
   accepted =
-      let a = e.args in
-      taken a.size a.dc_quant a.ac_quant a.tx_type a.lossless a.bit_depth a.tokens.now e.requires.1 (sym e.check_tokens-answer.ensures ∙ zero)
+      let a = c.args in
+      taken a.size a.dc_quant a.ac_quant a.tx_type a.lossless a.bit_depth a.tokens.now c.requires.1 (sym c.in_ok-check_tokens.ensures)
 
-pub returns-then-code-ne0 : goal.returns-then-code-ne0
-returns-then-code-ne0 c = record { answered = c.check_tokens-answer.ensures; written = λ e. absurd (c.if-code-ne0.true (c.code.ensures ∙ e)); kept = λ h. refl }
+pub returns-in_err-check_tokens : goal.returns-in_err-check_tokens
+returns-in_err-check_tokens c =
+    let p = err_from_is_err_and c.from_residual.result c.from_residual.ensures.1 in
+    rw (p.1, p.2) (record { answered = c.in_err-check_tokens.ensures; written = λ e. absurd (refused_number c.in_err-check_tokens.field-0.0 e); kept = λ h. refl })
 
 pub add_4-requires : goal.add_4-requires
 add_4-requires c =
     let a = c.args in
-    (c.requires.0, sized_taken a.size 0 a.dc_quant a.ac_quant a.tx_type a.lossless a.tokens.now c.if-size-eq0.true (accepted c.before.before.before))
+    (c.requires.0, sized_taken a.size 0 a.dc_quant a.ac_quant a.tx_type a.lossless a.tokens.now c.if-size-eq0.true (accepted (goal.at.add_4-requires c).In_ok-check_tokens))
 
 pub returns-then-size-eq0 : goal.returns-then-size-eq0
 returns-then-size-eq0 c =
     let a = c.args in
     record {
-      answered = c.check_tokens-answer.ensures;
+      answered = c.in_ok-check_tokens.ensures;
       written = λ z. same_added a.plane _ _ a.x a.y 0 a.size a.dc_quant a.ac_quant a.tx_type a.lossless a.tokens.now a.samples.now _
           c.largest-top.ensures (sym c.if-size-eq0.true) c.add_4.ensures;
-      kept = λ h. absurd (h (zero c.before.before.before.before.before.before.before));
+      kept = λ h. absurd (h refl);
     }
 
 -- and nothing is lossless
@@ -55,15 +44,15 @@ lossy c =
 pub add_wide-requires : goal.add_wide-requires
 add_wide-requires c =
     let a = c.args in
-    (c.requires.0, lossy_taken a.size a.dc_quant a.ac_quant a.tx_type a.lossless a.tokens.now (lossy c.before) (accepted c.before.before.before), omega (arith, c.if-size-eq0.false))
+    (c.requires.0, lossy_taken a.size a.dc_quant a.ac_quant a.tx_type a.lossless a.tokens.now (lossy (goal.at.add_wide-requires c).Else-size-eq0) (accepted (goal.at.add_wide-requires c).In_ok-check_tokens), omega (arith, c.if-size-eq0.false))
 
 pub returns : goal.returns
 returns c =
     let a = c.args in
     record {
-      answered = c.check_tokens-answer.ensures;
+      answered = c.in_ok-check_tokens.ensures;
       written = λ z. same_added a.plane _ _ a.x a.y a.size a.size a.dc_quant a.ac_quant a.tx_type a.lossless a.tokens.now a.samples.now _
           c.largest-top.ensures refl
-          (c.add_wide.ensures ∙ lossy_added a.plane _ a.x a.y a.size a.dc_quant a.ac_quant a.tx_type a.lossless a.tokens.now a.samples.now (lossy c.before.before.before.before.before));
-      kept = λ h. absurd (h (zero c.before.before.before.before.before.before.before));
+          (c.add_wide.ensures ∙ lossy_added a.plane _ a.x a.y a.size a.dc_quant a.ac_quant a.tx_type a.lossless a.tokens.now a.samples.now (lossy (goal.at.returns c).Else-size-eq0));
+      kept = λ h. absurd (h refl);
     }

@@ -1,13 +1,14 @@
--- `reconstruct::reconstruct_block` meets its contract.
-use mathlib.Core.Path.{◌≡◌, sym, ◌∙◌}
+use mathlib.Core.Path.{◌≡◌, refl, sym, ◌∙◌}
 use mathlib.Core.Bool.{Bool, true, false}
 use mathlib.Core.List.{List}
 use Prim.Native.Nat.{ℕ}
 use native.Mathlib.Decide.{ℕ_discrete}
 use native.Mathlib.Omega.{arith}
 use lib.ListN.{length}
-use Rattle.answers.specs.declared.Answer.{Answer}
-use Rattle.answers.specs.Answers.{number}
+use Rattle.std.specs.Prelude.{Ok}
+use Rattle.std.proofs.lemmas.Result.{err_from_is_err_and}
+use Rattle.answers.specs.Answers.{Answer, number}
+use Rattle.answers.proofs.Numbers.{refused_number}
 use Rattle.residual16.specs.Inner.{Lent}
 use Rattle.tokens.specs.Inner.{shape_of}
 use Rattle.tokens.proofs.Sizes.{dc_fine, ac_fine}
@@ -17,18 +18,7 @@ use Rattle.reconstruct.specs.Inner.{Sound, Checked, Quick, Tried}
 use Rattle.reconstruct.proofs.Residual.{not_lossless, lossy_added}
 use Rattle.reconstruct.proofs.Table.{shaped, shape_stops, shape_passes, refused, done}
 use Rattle.reconstruct.proofs.reconstruct_block.Goals as goal
-use Rattle.reconstruct.proofs.reconstruct_block.Lts as lts
-use Rattle.reconstruct.proofs.reconstruct_block.Tie as tie
-use Rattle.reconstruct.proofs.reconstruct_block.Reads as reads
-use Rattle.reconstruct.proofs.reconstruct_block.Goals.{Start}
-
--- the place behind a step, with what was known there
-abbrev Else-code-ne0 : Type 0
-Else-code-ne0 = lts.Else1 tie.the-claims reads.Pre reads.Post
-
--- the place behind a step, with what was known there
-abbrev Else-quick : Type 0
-Else-quick = lts.Else3 tie.the-claims reads.Pre reads.Post
+use Rattle.reconstruct.proofs.reconstruct_block.Goals.{Start, In_ok-check, Else-quick}
 
 -- the call's input
 abbrev input : Start → Input
@@ -122,55 +112,53 @@ tried_no : (u : Input) (top : ℕ) (r : Bool) (after : List ℕ) → r ≡ false
 tried_no u top r after e t = rw e at t
 
 -- ---- the walk
-module _ (e : Else-code-ne0) where
-  first : shape (input e.before.before.before.before) ≡ 0
-  first = sym (e.code.ensures ∙ e.check-shape.ensures) ∙ e.if-code-ne0.false
-
-pub returns-then-code-ne0 : goal.returns-then-code-ne0
-returns-then-code-ne0 c =
-    let u = input c.before.before.before.before.before in
-    let k = c.check-shape.ensures in
-    let ne : shape u ≡ 0 → ⊥ = λ e. c.if-code-ne0.true (c.code.ensures ∙ k ∙ e) in
-    record { answered = k ∙ sym (shape_stops u ne); written = refused u (λ e. ne (sym (shape_stops u ne) ∙ e)) }
+pub returns-in_err-check : goal.returns-in_err-check
+returns-in_err-check c =
+    let u = input (goal.at.returns-in_err-check c).Start in
+    let p = err_from_is_err_and c.from_residual.result c.from_residual.ensures.1 in
+    let k = c.in_err-check.ensures in
+    let ne : shape u ≡ 0 → ⊥ = λ e. refused_number c.in_err-check.field-0.0 (k ∙ e) in
+    rw (p.1, p.2) (record { answered = k ∙ sym (shape_stops u ne); written = refused u (λ e. ne (sym (shape_stops u ne) ∙ e)) })
 
 pub add_checked-requires : goal.add_checked-requires
 add_checked-requires c =
-    let u = input c.before.before.before.before.before.before in
-    ((shaped u (first c.before.before)).samples_ok, sound_4 u c.if-tx_sz-eq0.true (sound u (first c.before.before)))
+    let u = input (goal.at.add_checked-requires c).Start in
+    ((shaped u (sym c.in_ok-check.ensures)).samples_ok, sound_4 u c.if-tx_sz-eq0.true (sound u (sym c.in_ok-check.ensures)))
 
 pub returns-then-tx_sz-eq0 : goal.returns-then-tx_sz-eq0
 returns-then-tx_sz-eq0 c =
-    let u = input c.before.before.before.before.before.before.before.before.before.before in
-    checked u (first c.before.before.before.before.before.before) c.add_checked.result c.add_checked.new.samples (checked_4 u _ _ c.if-tx_sz-eq0.true c.add_checked.ensures)
+    let u = input (goal.at.returns-then-tx_sz-eq0 c).Start in
+    checked u (sym c.in_ok-check.ensures) c.add_checked.result c.add_checked.new.samples (checked_4 u _ _ c.if-tx_sz-eq0.true c.add_checked.ensures)
 
 pub quick-requires : goal.quick-requires
 quick-requires c =
-    let u = input c.before.before.before.before.before.before.before in
-    ((shaped u (first c.before.before.before)).samples_ok, lent u (first c.before.before.before) c.if-tx_sz-eq0.false)
+    let u = input (goal.at.quick-requires c).Start in
+    ((shaped u (sym c.in_ok-check.ensures)).samples_ok, lent u (sym c.in_ok-check.ensures) c.if-tx_sz-eq0.false)
 
 pub returns-then-quick : goal.returns-then-quick
 returns-then-quick c =
-    let u = input c.before.before.before.before.before.before.before.before.before.before.before.before in
+    let u = input (goal.at.returns-then-quick c).Start in
     let l = c.largest in
-    served u (first c.before.before.before.before.before.before.before.before) c.if-tx_sz-eq0.false c.check-shape.result l.result c.quick.new.samples (c.check-shape.ensures ∙ first c.before.before.before.before.before.before.before.before) l.ensures
+    served u (sym c.in_ok-check.ensures) c.if-tx_sz-eq0.false (Ok tt) l.result c.quick.new.samples refl l.ensures
     (tried_yes u l.result c.quick.result c.quick.new.samples c.if-quick.true c.quick.ensures)
 
 -- it did not serve: the samples are as they were
 kept : (x : Else-quick) → x.quick.new.samples ≡ x.args.samples.now
 kept x =
-    let u = input x.before.before.before.before.before.before.before.before.before.before.before in
+    let a = x.args in
+    let u : Input = record { samples = a.samples.now; plane = a.plane; x = a.x; y = a.y; size = a.tx_sz; tokens = a.tokens.now; dc = a.dc_quant; ac = a.ac_quant; tx_type = a.tx_type; lossless = a.lossless; depth = a.bit_depth } in
     tried_no u x.largest.result x.quick.result x.quick.new.samples x.if-quick.false x.quick.ensures
 
 pub add_checked-requires-2 : goal.add_checked-requires-2
 add_checked-requires-2 c =
-    let u = input c.before.before.before.before.before.before.before.before.before.before.before.before in
-    (rw (kept c.before) (shaped u (first c.before.before.before.before.before.before.before.before)).samples_ok, sound_lossy u (first c.before.before.before.before.before.before.before.before) c.if-tx_sz-eq0.false)
+    let u = input (goal.at.add_checked-requires-2 c).Start in
+    (rw (kept (goal.at.add_checked-requires-2 c).Else-quick) (shaped u (sym c.in_ok-check.ensures)).samples_ok, sound_lossy u (sym c.in_ok-check.ensures) c.if-tx_sz-eq0.false)
 
 pub returns : goal.returns
 returns c =
-    let u = input c.before.before.before.before.before.before.before.before.before.before.before.before.before.before.before.before in
-    checked u (first c.before.before.before.before.before.before.before.before.before.before.before.before) c.add_checked-2.result c.add_checked-2.new.samples
-    (checked_lossy u (first c.before.before.before.before.before.before.before.before.before.before.before.before) c.if-tx_sz-eq0.false _ c.quick.new.samples _ (kept c.before.before.before.before.before) c.add_checked-2.ensures)
+    let u = input (goal.at.returns c).Start in
+    checked u (sym c.in_ok-check.ensures) c.add_checked-2.result c.add_checked-2.new.samples
+    (checked_lossy u (sym c.in_ok-check.ensures) c.if-tx_sz-eq0.false _ c.quick.new.samples _ (kept (goal.at.returns c).Else-quick) c.add_checked-2.ensures)
 
 pub largest-requires : goal.largest-requires
-largest-requires c = (shaped (input c.before.before.before.before.before.before) (first c.before.before)).depth_ok
+largest-requires c = (shaped (input (goal.at.largest-requires c).Start) (sym c.in_ok-check.ensures)).depth_ok

@@ -1,7 +1,8 @@
--- `report::reconstruct_block_report` meets its contract.
 use mathlib.Core.Path.{◌≡◌, sym, ap, ◌∙◌}
 use mathlib.Core.Bool.{false, ◌||◌}
 use lib.ListN.{length}
+use Rattle.std.proofs.lemmas.Result.{err_from_is_err_and}
+use Rattle.answers.proofs.Numbers.{refused_number}
 use Rattle.reconstruct.specs.Reconstruct as R
 use Rattle.report.specs.Classes.{one, itself}
 use Rattle.report.specs.Report.{Input, answer_of, bad_total, bad_sums}
@@ -9,7 +10,7 @@ use Rattle.report.specs.Inner.{or_fifteen}
 use Rattle.report.proofs.Table.{note_all, good, passes, fails, samples_stay, list_stays, same_samples, list_done, not_zero, corner_answer}
 use Rattle.report.proofs.Above.{room}
 use Rattle.report.proofs.reconstruct_block_report.Goals as goal
-use Rattle.report.proofs.reconstruct_block_report.Goals.{Else-bad_report, Else-code-ne0, Start}
+use Rattle.report.proofs.reconstruct_block_report.Goals.{Else-bad_report, Start}
 
 -- the call's input
 abbrev block : Start → R.Input
@@ -50,37 +51,33 @@ passed : (c : Else-bad_report) → bad_total (length c.args.tokens.now) c.args.c
 passed c = sym c.bad_report.ensures ∙ c.if-bad_report.false
 
 -- reconstruction refuses
-pub returns-then-code-ne0 : goal.returns-then-code-ne0
-returns-then-code-ne0 c =
-    let u = input (goal.at.returns-then-code-ne0 c).Start in
-    let r = c.reconstruct_block-answer.ensures in
-    let e = passes u (passed (goal.at.returns-then-code-ne0 c).Else-bad_report) in
-    let ne : answer_of u ≡ 0 → ⊥ = λ z. c.if-code-ne0.true (c.code.ensures ∙ r.answered ∙ e ∙ z) in
-    record {
+pub returns-in_err-answer : goal.returns-in_err-answer
+returns-in_err-answer c =
+    let u = input (goal.at.returns-in_err-answer c).Start in
+    let p = err_from_is_err_and c.from_residual.result c.from_residual.ensures.1 in
+    let r = c.in_err-answer.ensures in
+    let e = passes u (passed (goal.at.returns-in_err-answer c).Else-bad_report) in
+    let ne : answer_of u ≡ 0 → ⊥ = λ z. refused_number c.in_err-answer.field-0.0 (r.answered ∙ e ∙ z) in
+    rw (p.1, p.2) (record {
       answered = r.answered ∙ e;
       written = r.written ∙ same_samples u e;
       counted = list_stays u one u.counts ne;
       summed = list_stays u itself u.sums ne;
-    }
-
--- the block is done
-module _ (d : Else-code-ne0) where
-  done : R.answer_of (block d.before.before.before.before.before.before.before.before.before.before) ≡ 0
-  done = sym (d.code.ensures ∙ d.reconstruct_block-answer.ensures.answered) ∙ d.if-code-ne0.false
+    })
 
 pub count_tokens-requires : goal.count_tokens-requires
 count_tokens-requires c =
     let a = c.args in
-    let g = good (block (goal.at.count_tokens-requires c).Start) (done (goal.at.count_tokens-requires c).Else-code-ne0) in
+    let g = good (block (goal.at.count_tokens-requires c).Start) (sym c.in_ok-answer.ensures.answered) in
     (g.size_ok, g.length_ok, g.taken, room (length a.tokens.now) a.counts.now a.sums.now (passed (goal.at.count_tokens-requires c).Else-bad_report))
 
 pub returns : goal.returns
 returns c =
     let a = c.args in
     let u = input (goal.at.returns c).Start in
-    let r = c.reconstruct_block-answer.ensures in
+    let r = c.in_ok-answer.ensures in
     let e = passes u (passed (goal.at.returns c).Else-bad_report) in
-    let z = sym e ∙ done (goal.at.returns c).Else-code-ne0 in
+    let z = sym e ∙ sym r.answered in
     record {
       answered = r.answered ∙ e;
       written = r.written ∙ same_samples u e;

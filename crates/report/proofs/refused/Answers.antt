@@ -1,4 +1,6 @@
 use mathlib.Core.Path.{sym, ◌∙◌}
+use Rattle.std.proofs.lemmas.Result.{err_from_is_err_and}
+use Rattle.answers.proofs.Numbers.{refused_number}
 use Rattle.reconstruct.specs.Reconstruct.{Input, answer_of}
 use Rattle.report.proofs.Table.{beside_answer, beside_samples, fifteen, no_fifteen}
 use Rattle.report.proofs.refused.Goals as goal
@@ -21,14 +23,16 @@ input s =
       depth = s.args.bit_depth;
     }
 
-pub returns-then-code-ne0 : goal.returns-then-code-ne0
-returns-then-code-ne0 c =
-    let u = input (goal.at.returns-then-code-ne0 c).Start in
-    let k = c.reconstruct_block-own.ensures.answered ∙ beside_answer u in
-    (k ∙ no_fifteen (answer_of u) (λ e. c.if-code-ne0.true (c.code.ensures ∙ k ∙ e)), c.reconstruct_block-own.ensures.written ∙ beside_samples u)
+pub returns-in_err-reconstruct_block : goal.returns-in_err-reconstruct_block
+returns-in_err-reconstruct_block c =
+    let u = input (goal.at.returns-in_err-reconstruct_block c).Start in
+    let p = err_from_is_err_and c.from_residual.result c.from_residual.ensures.1 in
+    let k = c.in_err-reconstruct_block.ensures.answered ∙ beside_answer u in
+    rw (p.1, p.2)
+    (k ∙ no_fifteen (answer_of u) (λ e. refused_number c.in_err-reconstruct_block.field-0.0 (k ∙ e)), c.in_err-reconstruct_block.ensures.written ∙ beside_samples u)
 
 pub returns : goal.returns
 returns c =
     let u = input (goal.at.returns c).Start in
-    let k = c.reconstruct_block-own.ensures.answered ∙ beside_answer u in
-    (fifteen (answer_of u) (sym (c.code.ensures ∙ k) ∙ c.if-code-ne0.false), c.reconstruct_block-own.ensures.written ∙ beside_samples u)
+    let k = c.in_ok-reconstruct_block.ensures.answered ∙ beside_answer u in
+    (fifteen (answer_of u) (sym k), c.in_ok-reconstruct_block.ensures.written ∙ beside_samples u)

@@ -4,6 +4,7 @@ use mir.ValLaws.{to_z-of_z}
 use Rattle.whole.proofs.Signed.{rd, rd_ok}
 use Rattle.quant.specs.Places.{quantizer_at}
 use Rattle.quant.specs.Token.{dq_denom, dequant}
+use Rattle.quant.proofs.Machine.{number}
 use Rattle.blocks.proofs.Inverse.{side_most}
 use Rattle.residual16.specs.Inner.{Scanned, Short, Lent}
 use Rattle.residual16.proofs.Numbers.{never}
@@ -55,50 +56,51 @@ module _ (e : Else-not-enough) where
 
 pub dequant16-requires : goal.dequant16-requires
 dequant16-requires c =
-    rw (to_z-of_z w64 (get_or c.args.tokens.now 0 (pos 0)) (record { sfits = c.dequant16-arg-1.given })) ((lent c.before.before.before.before.before.before.before.before.before).dc_ok, (dc_short c.before.before.before.before).0, (dc_short c.before.before.before.before).1)
+    let fine = (lent (goal.at.dequant16-requires c).Start).dc_ok in
+    rw (number c.args.dc_quant.0 fine, to_z-of_z w64 (get_or c.args.tokens.now 0 (pos 0)) (record { sfits = c.dequant16-arg-1.given })) (fine, (dc_short (goal.at.dequant16-requires c).Else-not-enough).0, (dc_short (goal.at.dequant16-requires c).Else-not-enough).1)
 
 pub returns-then-tx_type-eq0 : goal.returns-then-tx_type-eq0
 returns-then-tx_type-eq0 c =
     let a = c.args in
     let t = to_z-of_z w64 (get_or a.tokens.now 0 (pos 0)) (record { sfits = c.dequant16-arg-1.given }) in
-    let v : rd w16 c.dequant16.result ≡ dequant a.size a.dc_quant.0 (get_or a.tokens.now 0 (pos 0)) = rd_ok w16 {z = c.dequant16.result} c.dequant16.type_inv ∙ rw t at c.dequant16.ensures in
-    λ h. served_flat a.size a.dc_quant a.ac_quant a.tx_type a.tokens.now (lent c.before.before.before.before.before.before.before.before.before.before.before.before) (all c.before.before.before.before.before.before.before.before.before) (added c.before.before.before.before.before.before.before.before.before) (strips c.before.before.before.before.before.before.before.before.before) (scanned c.before.before.before.before.before.before.before.before.before) (told c.before.before.before.before.before.before.before).0 (told c.before.before.before.before.before.before.before).1
-    (c.if-w-first.true ∙ first_is c.before.before.before.before.before.before.before.before.before) c.if-tx_type-eq0.true
+    let v : rd w16 c.dequant16.result ≡ dequant a.size a.dc_quant.0 (get_or a.tokens.now 0 (pos 0)) = rd_ok w16 {z = c.dequant16.result} c.dequant16.type_inv ∙ rw (number a.dc_quant.0 (lent (goal.at.returns-then-tx_type-eq0 c).Start).dc_ok, t) at c.dequant16.ensures in
+    λ h. served_flat a.size a.dc_quant a.ac_quant a.tx_type a.tokens.now (lent (goal.at.returns-then-tx_type-eq0 c).Start) (all (goal.at.returns-then-tx_type-eq0 c).After-magnitude-first) (added (goal.at.returns-then-tx_type-eq0 c).After-magnitude-first) (strips (goal.at.returns-then-tx_type-eq0 c).After-magnitude-first) (scanned (goal.at.returns-then-tx_type-eq0 c).After-magnitude-first) (told (goal.at.returns-then-tx_type-eq0 c).Else-not-enough).0 (told (goal.at.returns-then-tx_type-eq0 c).Else-not-enough).1
+    (c.if-w-first.true ∙ first_is (goal.at.returns-then-tx_type-eq0 c).After-magnitude-first) c.if-tx_type-eq0.true
     a.z.now (set a.z.now 0 (rd w16 c.dequant16.result)) c.residual_dc.new.z c.requires.0 (ap (set a.z.now 0) v) c.residual_dc.ensures
 
 pub dequantize-requires : goal.dequantize-requires
 dequantize-requires c =
-    let w = scanned c.before.before.before.before.before.before in
-    record { z_value = (c.requires.0, (lent c.before.before.before.before.before.before.before.before.before).larger, omega (arith, (lent c.before.before.before.before.before.before.before.before.before).possible.most), (lent c.before.before.before.before.before.before.before.before.before).all, omega (arith, w.least), w.most, w.dead); dc_quant_value = ((lent c.before.before.before.before.before.before.before.before.before).dc_ok, (lent c.before.before.before.before.before.before.before.before.before).ac_ok, shorts c.before.before.before.before) }
+    let w = scanned (goal.at.dequantize-requires c).After-magnitude-first in
+    record { z_value = (c.requires.0, (lent (goal.at.dequantize-requires c).Start).larger, omega (arith, (lent (goal.at.dequantize-requires c).Start).possible.most), (lent (goal.at.dequantize-requires c).Start).all, omega (arith, w.least), w.most, w.dead); dc_quant_value = ((lent (goal.at.dequantize-requires c).Start).dc_ok, (lent (goal.at.dequantize-requires c).Start).ac_ok, shorts (goal.at.dequantize-requires c).Else-not-enough) }
 
 pub passes-requires : goal.passes-requires
 passes-requires c =
     let a = c.args in
-    let w = scanned c.before.before.before.before.before.before.before.before in
+    let w = scanned (goal.at.passes-requires c).After-magnitude-first in
     let d = c.dequantize.ensures in
     rw d.1 (
-      omega (arith, (lent c.before.before.before.before.before.before.before.before.before.before.before).larger),
-      (lent c.before.before.before.before.before.before.before.before.before.before.before).possible,
+      omega (arith, (lent (goal.at.passes-requires c).Start).larger),
+      (lent (goal.at.passes-requires c).Start).possible,
       d.0,
-      few_coefs a.size a.dc_quant a.ac_quant a.tx_type a.tokens.now (lent c.before.before.before.before.before.before.before.before.before.before.before) (all c.before.before.before.before.before.before.before.before) (added c.before.before.before.before.before.before.before.before) (strips c.before.before.before.before.before.before.before.before) w (told c.before.before.before.before.before.before).0 (told c.before.before.before.before.before.before).1,
+      few_coefs a.size a.dc_quant a.ac_quant a.tx_type a.tokens.now (lent (goal.at.passes-requires c).Start) (all (goal.at.passes-requires c).After-magnitude-first) (added (goal.at.passes-requires c).After-magnitude-first) (strips (goal.at.passes-requires c).After-magnitude-first) w (told (goal.at.passes-requires c).Else-not-enough).0 (told (goal.at.passes-requires c).Else-not-enough).1,
       w.most,
-      dead_all a.size a.dc_quant a.ac_quant a.tx_type a.tokens.now (lent c.before.before.before.before.before.before.before.before.before.before.before) _ w.dead,
+      dead_all a.size a.dc_quant a.ac_quant a.tx_type a.tokens.now (lent (goal.at.passes-requires c).Start) _ w.dead,
     )
 
 pub returns : goal.returns
 returns c =
     let a = c.args in
-    λ h. served a.size a.dc_quant a.ac_quant a.tx_type a.tokens.now (lent c.before.before.before.before.before.before.before.before.before.before.before.before) (all c.before.before.before.before.before.before.before.before.before) (added c.before.before.before.before.before.before.before.before.before) (strips c.before.before.before.before.before.before.before.before.before) (scanned c.before.before.before.before.before.before.before.before.before) (told c.before.before.before.before.before.before.before).0 (told c.before.before.before.before.before.before.before).1
+    λ h. served a.size a.dc_quant a.ac_quant a.tx_type a.tokens.now (lent (goal.at.returns c).Start) (all (goal.at.returns c).After-magnitude-first) (added (goal.at.returns c).After-magnitude-first) (strips (goal.at.returns c).After-magnitude-first) (scanned (goal.at.returns c).After-magnitude-first) (told (goal.at.returns c).Else-not-enough).0 (told (goal.at.returns c).Else-not-enough).1
     c.dequantize.new.z c.passes.new.z c.dequantize.ensures.1 c.passes.ensures
 
 pub bounds-tokens-0 : goal.bounds-tokens-0
-bounds-tokens-0 c = first_in c.before
+bounds-tokens-0 c = first_in (goal.at.bounds-tokens-0 c).Start
 
 pub returns-then-not-enough : goal.returns-then-not-enough
 returns-then-not-enough c h = never h
 
 pub bounds-tokens-0-then-tx_type-eq0 : goal.bounds-tokens-0-then-tx_type-eq0
-bounds-tokens-0-then-tx_type-eq0 c = first_in c.before.before.before.before.before.before.before.before
+bounds-tokens-0-then-tx_type-eq0 c = first_in (goal.at.bounds-tokens-0-then-tx_type-eq0 c).Start
 
 pub overflow_mul-w : goal.overflow_mul-w
-overflow_mul-w c = record { fits = omega (arith, (scanned c.before.before.before.before.before.before).most, side_most (c.args.size + 2) (lent c.before.before.before.before.before.before.before.before.before).possible.least (lent c.before.before.before.before.before.before.before.before.before).possible.most) }
+overflow_mul-w c = record { fits = omega (arith, (scanned (goal.at.overflow_mul-w c).After-magnitude-first).most, side_most (c.args.size + 2) (lent (goal.at.overflow_mul-w c).Start).possible.least (lent (goal.at.overflow_mul-w c).Start).possible.most) }

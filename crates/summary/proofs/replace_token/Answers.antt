@@ -1,17 +1,19 @@
 use mathlib.Core.Path.{◌≡◌, sym, ap, ◌∙◌}
-use Prim.Native.Nat.{◌+◌}
+use Prim.Native.Nat.{ℕ, ◌+◌}
 use native.Mathlib.Omega.{arith}
 use lib.ListN.{set, length-set}
 use lib.Pow.{pow_pos}
 use mir.Syntax.{w64}
 use mir.Val.{to_z, of_z}
 use mir.ValLaws.{to_z-of_z}
-use Rattle.whole.proofs.Signed.{rd_ok}
-use Rattle.answers.specs.Answers.{number}
+use Rattle.whole.proofs.Signed.{rd, rd_ok}
+use Rattle.std.specs.Prelude.{Err}
+use Rattle.std.proofs.lemmas.Result.{err_from_is_err_and}
+use Rattle.answers.proofs.Numbers.{refused_number}
 use Rattle.summary.specs.Replace.{Input, coefficient, answer_of}
 use Rattle.summary.proofs.Replace.{Accepted, accepted, area_most, refused, replaced}
 use Rattle.summary.proofs.replace_token.Goals as goal
-use Rattle.summary.proofs.replace_token.Goals.{After-check-answer, After-coefficient-coef, Else-code-ne0, Start}
+use Rattle.summary.proofs.replace_token.Goals.{After-coefficient-coef, In_ok-check, Start}
 
 -- what the call is given
 abbrev given : Start → Input
@@ -28,18 +30,20 @@ given s =
     }
 
 -- the answer does not rest on the summary
-told : (c : After-check-answer) → number c.check-answer.result ≡ answer_of (given c.before)
+told : (s : Start) {n : ℕ} → n ≡ answer_of (record { block = s.args.block.now; summary = 0; size = s.args.tx_sz; place = s.args.place; token = rd w64 s.args.token; dc = s.args.dc_quant; ac = s.args.ac_quant; depth = s.args.bit_depth }) → n ≡ answer_of (given s)
 unfolding answer_of coefficient
-told c = rw (to_z-of_z w64 c.args.token c.ranges.token) at c.check-answer.ensures
+told s e = rw (to_z-of_z w64 s.args.token s.ranges.token) at e
 
-passed : (c : Else-code-ne0) → answer_of (given c.before.before.before) ≡ 0
-passed c = sym (c.code.ensures ∙ told c.before.before) ∙ c.if-code-ne0.false
+passed : (c : In_ok-check) → answer_of (given c.before.before.before) ≡ 0
+passed c = sym (told c.before.before.before c.in_ok-check.ensures)
 
-fine : (c : Else-code-ne0) → Accepted (given c.before.before.before)
+fine : (c : In_ok-check) → Accepted (given c.before.before.before)
 fine c = accepted (given c.before.before.before) (passed c)
 
-pub returns-then-code-ne0 : goal.returns-then-code-ne0
-returns-then-code-ne0 c = refused (given c.before.before.before) _ (told c.before.before) (λ z. c.if-code-ne0.true (c.code.ensures ∙ z))
+pub returns-in_err-check : goal.returns-in_err-check
+returns-in_err-check c =
+    let p = err_from_is_err_and c.from_residual.result c.from_residual.ensures.1 in
+    rw (p.1, p.2) (refused (given c.before.before.before.before) (Err c.in_err-check.field-0.0) (told c.before.before.before.before c.in_err-check.ensures) (refused_number c.in_err-check.field-0.0))
 
 pub coefficient-coef-requires : goal.coefficient-coef-requires
 coefficient-coef-requires c =

@@ -7,7 +7,7 @@ use lib.Pow.{pow_pos}
 use Rattle.answers.specs.Bad.{bad_side}
 use Rattle.answers.specs.Sizes.{area}
 use Rattle.answers.proofs.Passed.{side_range}
-use Rattle.summary.specs.declared.RowSummary.TheVariants.{Rows}
+use Rattle.std.specs.Prelude.{Ok}
 use Rattle.summary.specs.Summary.{summarized}
 use Rattle.summary.proofs.row_summary.Goals as goal
 use Rattle.summary.proofs.row_summary.Goals.{Else-bad_side, Else-block-area}
@@ -42,4 +42,4 @@ scan-requires c =
 pub returns : goal.returns
 unfolding summarized
 returns c =
-    rw (no1 c.before.before.before.before, le-ltb _ _ (room c.before.before)) (ap Rows (rw c.side.ensures.0 at c.scan.ensures))
+    rw (no1 c.before.before.before.before, le-ltb _ _ (room c.before.before)) (ap Ok (rw c.side.ensures.0 at c.scan.ensures))

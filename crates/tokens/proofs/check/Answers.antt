@@ -1,6 +1,6 @@
 -- `tokens::check` meets its contract.
 use mathlib.Core.Path.{◌≡◌, sym, ap, ◌∙◌}
-use mathlib.Core.Bool.{true, false, not}
+use mathlib.Core.Bool.{false, not}
 use Prim.Native.Nat.{◌+◌, ◌≤◌}
 use native.Mathlib.Omega.{arith}
 use borrow.Author.Tests.{eq-eqb, ne_eqb, ltb-false}
@@ -26,6 +26,7 @@ no4 : (c : Else-bad_tx_type) → let a = c.args in bad_tx_type a.lossless a.size
 no4 c = sym c.bad_tx_type.ensures ∙ c.if-bad_tx_type.false
 
 no5 : (c : Else-bad_quantizers) → let a = c.args in bad_quantizers a.dc_quant a.ac_quant ≡ false
+unfolding bad_quantizers
 no5 c = sym c.bad_quantizers.ensures ∙ c.if-bad_quantizers.false
 
 -- the count of numbers
@@ -57,7 +58,7 @@ returns-then-bad_tx_type c =
     rw (no1 c.before.before.before.before.before.before, no2 c.before.before.before.before, no3 c.before.before, sym c.bad_tx_type.ensures ∙ c.if-bad_tx_type.true)
 
 pub returns-then-bad_quantizers : goal.returns-then-bad_quantizers
-unfolding shape_of
+unfolding bad_quantizers shape_of
 returns-then-bad_quantizers c =
     rw (no1 c.before.before.before.before.before.before.before.before, no2 c.before.before.before.before.before.before, no3 c.before.before.before.before, no4 c.before.before, sym c.bad_quantizers.ensures ∙ c.if-bad_quantizers.true)
 

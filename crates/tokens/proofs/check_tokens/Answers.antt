@@ -1,6 +1,6 @@
 -- `tokens::check_tokens` meets its contract.
 use mathlib.Core.Path.{◌≡◌, sym, ◌∙◌}
-use mathlib.Core.Bool.{true, false, ◌||◌}
+use mathlib.Core.Bool.{◌||◌}
 use native.Mathlib.Omega.{arith}
 use lib.IntN.{pos, nat_abs}
 use lib.ListN.{length}
@@ -9,6 +9,7 @@ use Rattle.whole.proofs.Signed.{rd, rd_ok}
 use Rattle.answers.specs.Bad.{any_beyond}
 use Rattle.answers.specs.Limits.{codeable}
 use Rattle.answers.proofs.Passed.{codeable_most}
+use Rattle.quant.proofs.Machine.{number}
 use Rattle.tokens.specs.Tokens.{bad_coefficient}
 use Rattle.tokens.specs.Inner.{token_answer}
 use Rattle.tokens.proofs.Sizes.{dc_fine, ac_fine}
@@ -20,11 +21,11 @@ use Rattle.tokens.proofs.check_tokens.Goals.{After-any_beyond, After-max_codeabl
 limit : (c : After-max_codeable_coef-most) → rd w64 c.max_codeable_coef-most.result ≡ pos (codeable c.args.depth)
 limit c = rd_ok w64 {z = c.max_codeable_coef-most.result} c.max_codeable_coef-most.type_inv ∙ c.max_codeable_coef-most.ensures
 
-pub dc_bound-requires : goal.dc_bound-requires
-dc_bound-requires c = dc_fine _ _ c.requires.1
+pub largest_token-requires : goal.largest_token-requires
+largest_token-requires c = let h = dc_fine c.args.dc_quant c.args.ac_quant c.requires.1 in rw (number c.args.dc_quant.0 h) h
 
-pub ac_bound-requires : goal.ac_bound-requires
-ac_bound-requires c = ac_fine _ _ c.requires.1
+pub largest_token-requires-2 : goal.largest_token-requires-2
+largest_token-requires-2 c = let h = ac_fine c.args.dc_quant c.args.ac_quant c.requires.1 in rw (number c.args.ac_quant.0 h) h
 
 -- the scan is both tests
 either : (c : After-some_above) → let a = c.args in
@@ -32,13 +33,13 @@ either : (c : After-some_above) → let a = c.args in
 either c =
     let a = c.args in
     c.some_above.ensures
-    ∙ rw (limit c.before.before.before) at (above_either a.size (nat_abs (rd w64 c.max_codeable_coef-most.result)) c.dc_bound.result c.ac_bound.result a.dc_quant a.ac_quant c.requires.1
-    c.dc_bound.ensures c.ac_bound.ensures a.tokens.now)
+    ∙ rw (rd_ok w64 {z = c.max_codeable_coef-most.result} c.max_codeable_coef-most.type_inv ∙ c.max_codeable_coef-most.ensures) at (above_either a.size (nat_abs (rd w64 c.max_codeable_coef-most.result)) (record { 0 = c.largest_token.result }) (record { 0 = c.largest_token-2.result }) a.dc_quant a.ac_quant c.requires.1
+    (rw (number a.dc_quant.0 (dc_fine a.dc_quant a.ac_quant c.requires.1)) at c.largest_token.ensures) (rw (number a.ac_quant.0 (ac_fine a.dc_quant a.ac_quant c.requires.1)) at c.largest_token-2.ensures) a.tokens.now)
 
 -- and the second scan the first of them
 tokens_first : (c : After-any_beyond) → let a = c.args in
     c.any_beyond.result ≡ any_beyond (codeable a.depth) (length a.tokens.now) a.tokens.now
-tokens_first c = rw (limit c.before.before.before.before.before) at c.any_beyond.ensures
+tokens_first c = rw (rd_ok w64 {z = c.max_codeable_coef-most.result} c.max_codeable_coef-most.type_inv ∙ c.max_codeable_coef-most.ensures) at c.any_beyond.ensures
 
 pub returns-then-all_small : goal.returns-then-all_small
 returns-then-all_small c =

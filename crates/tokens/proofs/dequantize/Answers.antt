@@ -1,24 +1,32 @@
--- `tokens::dequantize` meets its contract.
-use mathlib.Core.Path.{ap, ◌∙◌}
+use mathlib.Core.Path.{◌≡◌, ap, ◌∙◌}
 use native.Mathlib.Omega.{arith}
 use lib.IntN.{pos}
 use lib.ListN.{get_or, set}
-use mir.Syntax.{w64}
+use mir.Syntax.{w32, w64}
 use mir.ValLaws.{to_z-of_z}
 use Rattle.whole.proofs.Lists.{fill_none, fill_more, fill_done}
-use Rattle.whole.proofs.Signed.{rd_ok}
+use Rattle.whole.proofs.Signed.{rd, rd_ok}
+use Rattle.quant.specs.Places.{quantizer_at}
+use Rattle.quant.proofs.Places.{fine_at}
+use Rattle.tokens.specs.Tokens.{bad_quantizers}
 use Rattle.tokens.proofs.dequantize.Goals as goal
+use Rattle.tokens.proofs.dequantize.Goals.{After-quantizer_at}
 
-pub coef_at-requires : goal.coef_at-requires
-coef_at-requires c =
+-- the quantizer of the place
+chosen : (c : After-quantizer_at) → rd w32 c.quantizer_at.result ≡ quantizer_at c.args.dc_quant c.args.ac_quant c.loop-k.k
+chosen c = rd_ok w32 {z = c.quantizer_at.result} c.quantizer_at.type_inv ∙ c.quantizer_at.ensures
+
+pub dequant-requires : goal.dequant-requires
+unfolding bad_quantizers
+dequant-requires c =
     let k = c.loop-k.k in
-    rw (to_z-of_z w64 (get_or c.args.tokens.now k (pos 0)) (record { sfits = c.coef_at-arg-1.given })) (c.requires.3, c.requires.2 k (omega arith))
+    rw (chosen c.before, to_z-of_z w64 (get_or c.args.tokens.now k (pos 0)) (record { sfits = c.dequant-arg-1.given })) (fine_at c.args.dc_quant c.args.ac_quant k c.requires.3, c.requires.2 k (omega arith))
 
 pub loop-k-preserved : goal.loop-k-preserved
 loop-k-preserved c =
     let l = c.loop-k in
-    let t = to_z-of_z w64 (get_or c.args.tokens.now l.k (pos 0)) (record { sfits = c.coef_at-arg-1.given }) in
-    let e = rd_ok w64 {z = c.coef_at.result} c.coef_at.type_inv ∙ rw t at c.coef_at.ensures in
+    let t = to_z-of_z w64 (get_or c.args.tokens.now l.k (pos 0)) (record { sfits = c.dequant-arg-1.given }) in
+    let e = rd_ok w64 {z = c.dequant.result} c.dequant.type_inv ∙ rw (rd_ok w32 {z = c.quantizer_at.result} c.quantizer_at.type_inv ∙ c.quantizer_at.ensures, t) at c.dequant.ensures in
     (omega arith, fill_more _ _ l.k l.invariant.1 (ap (set l.block l.k) e))
 
 pub loop-k-init : goal.loop-k-init

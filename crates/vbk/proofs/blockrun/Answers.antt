@@ -11,22 +11,24 @@ returns-then-not-roomy c = let a = c.args in short_rooms a.file.now a.samples.no
 pub write_refusal-requires : goal.write_refusal-requires
 write_refusal-requires c =
     let a = c.args in
-    refusal_room a.file.now a.samples.now a.answers.now a.out.now c.if-out-lt-TEXT_LIMIT.false (sym c.roomy.ensures ∙ c.if-not-roomy.false) c.replay-run.ensures c.code-number.ensures
+    refusal_room a.file.now a.samples.now a.answers.now a.out.now c.if-out-lt-TEXT_LIMIT.false (sym c.roomy.ensures ∙ c.if-not-roomy.false) c.in-Err.ensures (c.from-in-Err.ensures ∙ c.from.ensures)
 
-pub returns-then-number-ne0 : goal.returns-then-number-ne0
-returns-then-number-ne0 c =
+pub returns-in-Err : goal.returns-in-Err
+returns-in-Err c =
     let a = c.args in
-    refusal_printed a.file.now a.samples.now a.answers.now a.out.now c.if-out-lt-TEXT_LIMIT.false (sym c.roomy.ensures ∙ c.if-not-roomy.false) c.replay-run.ensures c.code-number.ensures c.if-number-ne0.true c.write_refusal.ensures
+    refusal_printed a.file.now a.samples.now a.answers.now a.out.now c.if-out-lt-TEXT_LIMIT.false (sym c.roomy.ensures ∙ c.if-not-roomy.false) c.in-Err.ensures (c.from-in-Err.ensures ∙ c.from.ensures) c.write_refusal.ensures
 
 pub print_run-requires : goal.print_run-requires
 print_run-requires c =
-    let a = c.args in (
-      count_fits a.file.now a.samples.now a.answers.now a.out.now c.if-out-lt-TEXT_LIMIT.false (sym c.roomy.ensures ∙ c.if-not-roomy.false) c.replay-run.ensures (sym c.code-number.ensures ∙ c.if-number-ne0.false) c.replay-run.auto.samples c.replay-run.auto.answers,
-      area_fits a.file.now a.samples.now a.answers.now a.out.now c.if-out-lt-TEXT_LIMIT.false (sym c.roomy.ensures ∙ c.if-not-roomy.false) c.replay-run.ensures (sym c.code-number.ensures ∙ c.if-number-ne0.false) c.replay-run.auto.samples c.replay-run.auto.answers,
-      run_room a.file.now a.samples.now a.answers.now a.out.now c.if-out-lt-TEXT_LIMIT.false (sym c.roomy.ensures ∙ c.if-not-roomy.false) c.replay-run.ensures (sym c.code-number.ensures ∙ c.if-number-ne0.false) c.replay-run.auto.samples c.replay-run.auto.answers (λ k. (c.type_inv.file k).fits) (λ k. (c.slice_known-4-1.given k).fits) (λ k. (c.slice_known-5-1.given k).fits),
+    let a = c.args in
+    let r = sym c.roomy.ensures ∙ c.if-not-roomy.false in
+    let d = c.in-Ok.ensures in (
+      count_fits a.file.now a.samples.now a.answers.now a.out.now c.if-out-lt-TEXT_LIMIT.false r d c.replay.auto.samples c.replay.auto.answers,
+      area_fits a.file.now a.samples.now a.answers.now a.out.now c.if-out-lt-TEXT_LIMIT.false r d c.replay.auto.samples c.replay.auto.answers,
+      run_room a.file.now a.samples.now a.answers.now a.out.now c.if-out-lt-TEXT_LIMIT.false r d c.replay.auto.samples c.replay.auto.answers (λ k. (c.type_inv.file k).fits) (λ k. (c.slice_known-4-1.given k).fits) (λ k. (c.slice_known-5-1.given k).fits),
     )
 
-pub returns : goal.returns
-returns c =
+pub returns-in-Ok : goal.returns-in-Ok
+returns-in-Ok c =
     let a = c.args in
-    run_printed a.file.now a.samples.now a.answers.now a.out.now c.if-out-lt-TEXT_LIMIT.false (sym c.roomy.ensures ∙ c.if-not-roomy.false) c.replay-run.ensures (sym c.code-number.ensures ∙ c.if-number-ne0.false) c.replay-run.auto.samples c.replay-run.auto.answers (λ k. (c.type_inv.file k).fits) (λ k. (c.slice_known-4-1.given k).fits) (λ k. (c.slice_known-5-1.given k).fits) c.print_run.ensures
+    run_printed a.file.now a.samples.now a.answers.now a.out.now c.if-out-lt-TEXT_LIMIT.false (sym c.roomy.ensures ∙ c.if-not-roomy.false) c.in-Ok.ensures c.replay.auto.samples c.replay.auto.answers (λ k. (c.type_inv.file k).fits) (λ k. (c.slice_known-4-1.given k).fits) (λ k. (c.slice_known-5-1.given k).fits) c.print_run.ensures

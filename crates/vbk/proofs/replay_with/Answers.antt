@@ -1,66 +1,68 @@
 use mathlib.Core.Path.{◌≡◌, sym, ap, ◌∙◌}
-use Prim.Native.Nat.{◌*◌, ◌≤◌}
+use mathlib.Core.Bool.{true}
+use mathlib.Core.List.{List}
+use Prim.Native.Nat.{ℕ, ◌*◌, ◌≤◌}
 use native.Mathlib.Omega.{arith}
 use lib.ListN.{length}
 use lib.Seq.{length-take-le}
-use Rattle.vbk_read.specs.Header.{plane_area, header_answer, fields_of}
+use Rattle.std.specs.Prelude.{Ok}
+use Rattle.std.proofs.lemmas.Result.{err_from_is_err_and}
+use Rattle.vbk_read.specs.Header.{plane_area, header_answer, Headed}
 use Rattle.vbk_read.specs.declared.Fields.{Fields}
 use Rattle.vbk_read.proofs.Headers.{good}
+use Rattle.vbk.specs.Promises.{roomy}
 use Rattle.vbk.proofs.Runs.{short, enough, rooms, refusal, whole}
 use Rattle.vbk.proofs.replay_with.Goals as goal
-use Rattle.vbk.proofs.replay_with.Goals.{After-plane_area-n, Else-code-ne0}
 
 pub returns-then-not-roomy : goal.returns-then-not-roomy
 returns-then-not-roomy g c =
     let a = c.args in
-    refusal g.B.Reconstruct.rebuilds g.B.Reconstruct.beside a.file.now a.samples.now a.answers.now a.blocks.now _ c.refused.ensures (sym (short a.file.now a.samples.now a.answers.now (sym c.roomy.ensures ∙ c.if-not-roomy.true))) (λ z. omega (arith, z))
+    refusal g.B.Reconstruct.rebuilds g.B.Reconstruct.beside a.file.now a.samples.now a.answers.now a.blocks.now _ (sym (short a.file.now a.samples.now a.answers.now (sym c.roomy.ensures ∙ c.if-not-roomy.true)))
 
--- the rooms are long enough: the header's answer is the run's
-pub returns-then-code-ne0 : goal.returns-then-code-ne0
-returns-then-code-ne0 g c =
+-- the rooms are long enough: the header's refusal is the run's
+pub returns-in_err-fields : goal.returns-in_err-fields
+returns-in_err-fields g c =
     let a = c.args in
-    let h = c.read_header-h in
-    refusal g.B.Reconstruct.rebuilds g.B.Reconstruct.beside a.file.now a.samples.now a.answers.now a.blocks.now _ c.refused-then-code-ne0.ensures (h.ensures.answered ∙ sym (enough a.file.now a.samples.now a.answers.now (sym c.roomy.ensures ∙ c.if-not-roomy.false)))
-    (λ z. c.if-code-ne0.true (c.code.ensures ∙ z))
+    let p = err_from_is_err_and c.from_residual.result c.from_residual.ensures.1 in
+    rw (p.1, p.2)
+    (refusal g.B.Reconstruct.rebuilds g.B.Reconstruct.beside a.file.now a.samples.now a.answers.now a.blocks.now _ (c.in_err-fields.ensures.answered ∙ sym (enough a.file.now a.samples.now a.answers.now (sym c.roomy.ensures ∙ c.if-not-roomy.false))))
 
-done : (g : _) (c : Else-code-ne0 g) → header_answer c.args.file.now ≡ 0
-done g c = sym c.read_header-h.ensures.answered ∙ sym c.code.ensures ∙ c.if-code-ne0.false
+-- the header is good, and so is its area
+module _ (s : List ℕ) {f : Fields} (d : Headed s (Ok f)) {n : ℕ} (e : n ≡ f.width * f.height) where
+  done : header_answer s ≡ 0
+  done = sym d.answered
 
-fields_are : (g : _) (c : Else-code-ne0 g) → c.read_header-h.result.fields ≡ fields_of c.args.file.now
-fields_are g c = c.read_header-h.ensures.fields_are ∙ rw (done g c)
+  area_is : n ≡ plane_area s
+  area_is = e ∙ ap (λ (f : Fields). f.width * f.height) d.fields_are
 
-area_is : (g : _) (c : After-plane_area-n g) → c.plane_area-n.result ≡ plane_area c.args.file.now
-area_is g c =
-    let done : header_answer c.args.file.now ≡ 0 = sym c.read_header-h.ensures.answered ∙ sym c.code.ensures ∙ c.if-code-ne0.false in
-    let fields : c.read_header-h.result.fields ≡ fields_of c.args.file.now = c.read_header-h.ensures.fields_are ∙ rw done in
-    c.plane_area-n.ensures ∙ ap (λ (f : Fields). f.width * f.height) fields
-
--- the plane's samples have room
-room : (g : _) (c : After-plane_area-n g) → c.plane_area-n.result ≤ length c.args.samples.now
-room g c =
-    let done : header_answer c.args.file.now ≡ 0 = sym c.read_header-h.ensures.answered ∙ sym c.code.ensures ∙ c.if-code-ne0.false in
-    let fields : c.read_header-h.result.fields ≡ fields_of c.args.file.now = c.read_header-h.ensures.fields_are ∙ rw done in
-    let area : c.plane_area-n.result ≡ plane_area c.args.file.now = c.plane_area-n.ensures ∙ ap (λ (f : Fields). f.width * f.height) fields in
-    omega (arith, area, (good c.args.file.now done).area_fits, (rooms c.args.samples.now c.args.answers.now (sym c.roomy.ensures ∙ c.if-not-roomy.false)).0)
+  -- the plane's samples have room
+  room : (samples answers : List ℕ) → roomy samples answers ≡ true → n ≤ length samples
+  room samples answers r = omega (arith, area_is, (good s done).area_fits, (rooms samples answers r).0)
 
 pub slice_bounds-play-end : goal.slice_bounds-play-end
-slice_bounds-play-end g c = room g (goal.at.slice_bounds-play-end g c).After-plane_area-n
+slice_bounds-play-end g c =
+    let a = c.args in
+    room a.file.now c.in_ok-fields.ensures c.plane_area-n.ensures a.samples.now a.answers.now (sym c.roomy.ensures ∙ c.if-not-roomy.false)
 
 pub slice_bounds-play-end-2 : goal.slice_bounds-play-end-2
-slice_bounds-play-end-2 g c = sym (length-take-le _ _ (room g (goal.at.slice_bounds-play-end-2 g c).After-plane_area-n))
+slice_bounds-play-end-2 g c =
+    let a = c.args in
+    sym (length-take-le _ _ (room a.file.now c.in_ok-fields.ensures c.plane_area-n.ensures a.samples.now a.answers.now (sym c.roomy.ensures ∙ c.if-not-roomy.false)))
 
 pub play-tally-requires : goal.play-tally-requires
 play-tally-requires g c =
-    let p = goal.at.play-tally-requires g c in
-    (done g p.Else-code-ne0, fields_are g p.Else-code-ne0, length-take-le _ _ (room g p.After-plane_area-n) ∙ area_is g p.After-plane_area-n, (rooms c.args.samples.now c.args.answers.now (sym c.roomy.ensures ∙ c.if-not-roomy.false)).1)
+    let a = c.args in
+    let d = c.in_ok-fields.ensures in
+    let r = sym c.roomy.ensures ∙ c.if-not-roomy.false in
+    (done a.file.now d c.plane_area-n.ensures, d.fields_are, length-take-le _ _ (room a.file.now d c.plane_area-n.ensures a.samples.now a.answers.now r) ∙ area_is a.file.now d c.plane_area-n.ensures, (rooms a.samples.now a.answers.now r).1)
 
 pub returns : goal.returns
 returns g c =
     let a = c.args in
-    let p = goal.at.returns g c in
-    whole g.B.Reconstruct.rebuilds g.B.Reconstruct.beside a.file.now a.samples.now a.answers.now a.blocks.now c.read_header-h.result.answer c.read_header-h.result.fields _ _ c.plane_area-n.result _ _ _ (area_is g p.After-plane_area-n)
-    (c.play-tally.auto.samples ∙ length-take-le _ _ (room g p.After-plane_area-n))
-    (sym c.code.ensures ∙ c.if-code-ne0.false)
-    (enough a.file.now a.samples.now a.answers.now (sym c.roomy.ensures ∙ c.if-not-roomy.false) ∙ done g p.Else-code-ne0)
-    (fields_are g p.Else-code-ne0)
+    let d = c.in_ok-fields.ensures in
+    let r = sym c.roomy.ensures ∙ c.if-not-roomy.false in
+    whole g.B.Reconstruct.rebuilds g.B.Reconstruct.beside a.file.now a.samples.now a.answers.now a.blocks.now _ _ _ c.plane_area-n.result _ _ _ (area_is a.file.now d c.plane_area-n.ensures)
+    (c.play-tally.auto.samples ∙ length-take-le _ _ (room a.file.now d c.plane_area-n.ensures a.samples.now a.answers.now r))
+    (enough a.file.now a.samples.now a.answers.now r ∙ done a.file.now d c.plane_area-n.ensures)
+    d.fields_are
     c.play-tally.ensures

@@ -1,17 +1,12 @@
-use mathlib.Core.Path.{◌≡◌, sym, ◌∙◌}
+use mathlib.Core.Path.{◌≡◌, refl, sym, ◌∙◌}
 use mathlib.Core.Bool.{true, false, not}
 use borrow.Author.Tests.{not-true, not-false}
 use Rattle.answers.specs.Bad.{any_beyond}
 use Rattle.answers.specs.Limits.{COEF_LIMIT}
 use Rattle.answers.specs.Sizes.{area}
-use Rattle.idct.specs.Driver.{Input}
 use Rattle.idct.proofs.Answers.{made, left, in_range}
 use Rattle.idct.proofs.fast.try_any.Goals as goal
 use Rattle.idct.proofs.fast.try_any.Goals.{After-within, Else-not-within, Start, Then-not-within}
-
--- what the call is given
-abbrev given : Start → Input
-given s = record { block = s.args.block.now; n = s.args.n; tx_type = s.args.tx_type; lossless = s.args.lossless }
 
 pub within-requires : goal.within-requires
 within-requires c = rw c.area-count.ensures.0 c.requires.1
@@ -27,7 +22,7 @@ within : (c : Else-not-within) → any_beyond COEF_LIMIT (area c.args.n) c.args.
 within c = not-true _ (sym (tested c.before) ∙ c.if-not-within.false)
 
 pub returns-then-not-within : goal.returns-then-not-within
-returns-then-not-within c = left (given c.before.before.before.before) c.refused.ensures.0 c.refused.ensures.1 (beyond c.before)
+returns-then-not-within c = left (record { block = c.args.block.now; n = c.args.n; tx_type = c.args.tx_type; lossless = c.args.lossless }) refl refl (beyond c)
 
 pub residual-requires : goal.residual-requires
 residual-requires c =
@@ -35,7 +30,7 @@ residual-requires c =
 
 pub returns : goal.returns
 returns c =
-    made (given c.before.before.before.before.before.before) (within c.before.before.before) c.residual.ensures.0 c.residual.ensures.1
+    made (record { block = c.args.block.now; n = c.args.n; tx_type = c.args.tx_type; lossless = c.args.lossless }) (within c.before.before.before) c.residual.ensures.0 c.residual.ensures.1
 
 pub area-count-requires : goal.area-count-requires
 area-count-requires c = (c.requires.0.least, c.requires.0.most)

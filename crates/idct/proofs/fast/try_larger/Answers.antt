@@ -1,4 +1,4 @@
-use mathlib.Core.Path.{◌≡◌, sym, ◌∙◌}
+use mathlib.Core.Path.{◌≡◌, refl, sym, ◌∙◌}
 use mathlib.Core.Bool.{true, false, not}
 use Prim.Native.Nat.{◌*◌}
 use native.Mathlib.Nat.{mul-le-mul}
@@ -10,17 +10,12 @@ use mir.Facts.{to_z-of_z}
 use Rattle.answers.specs.Bad.{any_beyond}
 use Rattle.answers.specs.Limits.{COEF_LIMIT}
 use Rattle.answers.specs.Sizes.{area}
-use Rattle.idct.specs.Driver.{Input}
 use Rattle.dc.proofs.Alone.{Alone, alone, area_some, area_more, dc_beyond, dc_written}
 use Rattle.blocks.proofs.Inverse.{side_most}
 use Rattle.idct.proofs.Answers.{made, left, in_range}
 use Rattle.idct.proofs.Counted.{live_counted, none_counted, lossy_dc}
 use Rattle.idct.proofs.fast.try_larger.Goals as goal
 use Rattle.idct.proofs.fast.try_larger.Goals.{After-is_beyond, After-side-n0, After-within, Else-not-within, Start, Then-not-within, Then-only_dc}
-
--- what the call is given
-abbrev given : Start → Input
-given s = record { block = s.args.block.now; n = s.args.n; tx_type = s.args.tx_type; lossless = false }
 
 -- numbers of the block
 all_fits : (c : After-side-n0) → Fits w64 (c.side-n0.result * c.side-n0.result)
@@ -49,13 +44,13 @@ dc_fill-requires c =
 
 pub returns-then-is_beyond : goal.returns-then-is_beyond
 returns-then-is_beyond c =
-    left (given c.before.before.before.before.before.before.before) c.refused.ensures.0 c.refused.ensures.1 (first c.before.before ∙ c.if-is_beyond.true)
+    left (record { block = c.args.block.now; n = c.args.n; tx_type = c.args.tx_type; lossless = false }) refl refl (first c.before ∙ c.if-is_beyond.true)
 
 pub returns-then-only_dc : goal.returns-then-only_dc
 returns-then-only_dc c =
-    made (given c.before.before.before.before.before.before.before.before.before.before) (first c.before.before.before.before.before ∙ c.if-is_beyond.false)
+    made (record { block = c.args.block.now; n = c.args.n; tx_type = c.args.tx_type; lossless = false }) (first c.before.before.before.before.before ∙ c.if-is_beyond.false)
     (dc_written c.args.n c.args.block.now c.requires.1.least c.requires.1.most c.requires.2 (only c.before.before.before.before.before.before.before).dead (only c.before.before.before.before.before.before.before).zero_kind (rw c.side-n0.ensures.0 at c.dc_fill.ensures))
-    (none_counted (given c.before.before.before.before.before.before.before.before.before.before) (lossy_dc c.args.block.now c.args.n c.args.tx_type ∙ rw c.side-n0.ensures.0 at (sym c.only_dc.ensures ∙ c.if-only_dc.true)) c.no_rows.ensures)
+    (none_counted (record { block = c.args.block.now; n = c.args.n; tx_type = c.args.tx_type; lossless = false }) (lossy_dc c.args.block.now c.args.n c.args.tx_type ∙ rw c.side-n0.ensures.0 at (sym c.only_dc.ensures ∙ c.if-only_dc.true)) c.no_rows.ensures)
 
 pub within-requires : goal.within-requires
 within-requires c = rw c.side-n0.ensures.0 c.requires.2
@@ -72,7 +67,7 @@ within c = not-true _ (sym (tested c.before) ∙ c.if-not-within.false)
 
 pub returns-then-not-within : goal.returns-then-not-within
 returns-then-not-within c =
-    left (given c.before.before.before.before.before.before) c.refused-then-not-within.ensures.0 c.refused-then-not-within.ensures.1 (beyond c.before)
+    left (record { block = c.args.block.now; n = c.args.n; tx_type = c.args.tx_type; lossless = false }) refl refl (beyond c)
 
 pub both_passes-requires : goal.both_passes-requires
 both_passes-requires c =
@@ -81,8 +76,8 @@ both_passes-requires c =
 pub returns : goal.returns
 returns c =
     let m = c.both_passes.ensures in
-    made (given c.before.before.before.before.before.before.before.before) (within c.before.before.before) m.written
-    (live_counted (given c.before.before.before.before.before.before.before.before) (side_most c.args.n c.requires.1.least c.requires.1.most) (lossy_dc c.args.block.now c.args.n c.args.tx_type ∙ rw c.side-n0.ensures.0 at (sym c.only_dc.ensures ∙ c.if-only_dc.false)) m.counted)
+    made (record { block = c.args.block.now; n = c.args.n; tx_type = c.args.tx_type; lossless = false }) (within c.before.before.before) m.written
+    (live_counted (record { block = c.args.block.now; n = c.args.n; tx_type = c.args.tx_type; lossless = false }) (side_most c.args.n c.requires.1.least c.requires.1.most) (lossy_dc c.args.block.now c.args.n c.args.tx_type ∙ rw c.side-n0.ensures.0 at (sym c.only_dc.ensures ∙ c.if-only_dc.false)) m.counted)
 
 pub overflow_mul-n0 : goal.overflow_mul-n0
 overflow_mul-n0 c = all_fits c

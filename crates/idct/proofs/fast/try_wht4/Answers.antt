@@ -1,4 +1,4 @@
-use mathlib.Core.Path.{◌≡◌, sym, ◌∙◌}
+use mathlib.Core.Path.{◌≡◌, refl, sym, ◌∙◌}
 use mathlib.Core.Bool.{true, false}
 use native.Mathlib.Omega.{arith}
 use borrow.Author.Tests.{not-true, not-false}
@@ -10,10 +10,6 @@ use Rattle.idct.proofs.Counted.{lossless_counted}
 use Rattle.idct.proofs.fast.try_wht4.Goals as goal
 use Rattle.idct.proofs.fast.try_wht4.Goals.{Else-not-within, Start, Then-not-within}
 
--- what the call is given
-abbrev given : Start → Input
-given s = record { block = s.args.block.now; n = 2; tx_type = 0; lossless = true }
-
 beyond : (c : Then-not-within) → any_beyond COEF_LIMIT 16 c.args.block.now ≡ true
 beyond c = not-false _ (sym c.within.ensures ∙ c.if-not-within.true)
 
@@ -21,13 +17,13 @@ within : (c : Else-not-within) → any_beyond COEF_LIMIT 16 c.args.block.now ≡
 within c = not-true _ (sym c.within.ensures ∙ c.if-not-within.false)
 
 pub returns-then-not-within : goal.returns-then-not-within
-returns-then-not-within c = left (given c.before.before.before) c.refused.ensures.0 c.refused.ensures.1 (beyond c.before)
+returns-then-not-within c = left (record { block = c.args.block.now; n = 2; tx_type = 0; lossless = true }) refl refl (beyond c)
 
 pub wht_by_summary-requires : goal.wht_by_summary-requires
 wht_by_summary-requires c = (c.requires, in_range 16 c.args.block.now (within c.before))
 
 pub returns : goal.returns
 returns c =
-    let u = given c.before.before.before.before.before in
+    let u : Input = record { block = c.args.block.now; n = 2; tx_type = 0; lossless = true } in
     let m = c.wht_by_summary.ensures in
     made u (within c.before.before.before) m.written (lossless_counted u.block 2 0 (omega arith) m.counted)
