@@ -7,8 +7,10 @@ use native.Mathlib.Omega.{arith}
 use borrow.Author.Tests.{le-leb, lt-leb, ne_eqb}
 use lib.Dec.{eqb}
 use lib.ListN.{length, drop, set}
-use Rattle.answers.specs.Answers.{number}
-use Rattle.vbk_read.specs.Header.{fields_of}
+use Rattle.std.specs.Prelude.{Ok, Err}
+use Rattle.answers.specs.Answers.{refusal_number}
+use Rattle.answers.specs.declared.Refusal.{Refusal}
+use Rattle.answers.proofs.Numbers.{refused_number}
 use Rattle.vbk.specs.Promises.{run_answer, Replayed}
 use Rattle.vbk.specs.declared.Run.{Run}
 use Rattle.exports.specs.Run.{FIGURES, figures, export_answer, RunTold}
@@ -30,25 +32,19 @@ module _ (s samples answers room : List ℕ) where
       let x : export_answer s samples answers room ≡ 6 = rw (lt-leb FIGURES (length room) h) in
       record { answered = e ∙ sym x; samples_are = rw x; answers_are = rw x; figures_are = rw x }
 
-  module _ (h : FIGURES ≤ length room) {r : Run} {samples' answers' : List ℕ} (d : Replayed s samples answers r samples' answers') {n : ℕ} (e : n ≡ number r.answer) where
+  module _ (h : FIGURES ≤ length room) {samples' answers' : List ℕ} where
     same : export_answer s samples answers room ≡ run_answer s samples answers
     unfolding export_answer
     same = rw (le-leb FIGURES (length room) h)
 
-    -- the number of the run's answer
-    is : n ≡ run_answer s samples answers
-    is = e ∙ d.answered
-
-    pub refused : (n ≡ 0 → ⊥) → RunTold s samples answers room n samples' answers' room
-    refused z =
-        let b : eqb (run_answer s samples answers) 0 ≡ false = ne_eqb (run_answer s samples answers) 0 (λ q. z (is ∙ q)) in
+    pub refused : {a : Refusal} → Replayed s samples answers (Err a) samples' answers' → {n : ℕ} → n ≡ refusal_number a → RunTold s samples answers room n samples' answers' room
+    refused {a} d {n} e =
+        let is : n ≡ run_answer s samples answers = e ∙ d.answered in
+        let b : eqb (run_answer s samples answers) 0 ≡ false = ne_eqb (run_answer s samples answers) 0 (λ q. refused_number a (d.answered ∙ q)) in
         record { answered = is ∙ sym same; samples_are = rw same d.samples_are; answers_are = rw same d.answers_are; figures_are = rw (same, b) }
 
-    pub done : {room' : List ℕ} → n ≡ 0 → room' ≡ r.fields.depth ∷ r.fields.width ∷ r.fields.height ∷ r.count ∷ r.touched ∷ drop FIGURES room → RunTold s samples answers room n samples' answers' room'
+    pub done : {r : Run} → Replayed s samples answers (Ok r) samples' answers' → {room' : List ℕ} → room' ≡ r.fields.depth ∷ r.fields.width ∷ r.fields.height ∷ r.count ∷ r.touched ∷ drop FIGURES room → RunTold s samples answers room 0 samples' answers' room'
     unfolding figures
-    done z p =
-        let zero : run_answer s samples answers ≡ 0 = sym is ∙ z in
-        let f : r.fields ≡ fields_of s = rw zero at d.fields_are in
-        let c = rw zero at d.count_is in
-        let t = rw zero at d.touched_is in
-        record { answered = is ∙ sym same; samples_are = rw same d.samples_are; answers_are = rw same d.answers_are; figures_are = p ∙ rw (same, zero, f, c, t) }
+    done {r} d p =
+        let zero : run_answer s samples answers ≡ 0 = sym d.answered in
+        record { answered = d.answered ∙ sym same; samples_are = rw same d.samples_are; answers_are = rw same d.answers_are; figures_are = p ∙ rw (same, zero, d.told.fields_are, d.told.count_is, d.told.touched_is) }

@@ -340,22 +340,21 @@ pub extern "C" fn bracetwill_replay(
     if figures.len() < FIGURES {
         return u32::from(Refusal::Length);
     }
-    let run = vbk::replay(file, samples, answers);
-    let answer = run.answer;
-    let number = answers::code(answer);
-    if number != 0 {
-        return number;
+    match vbk::replay(file, samples, answers) {
+        Ok(run) => {
+            let fields = run.fields;
+            put_figures(
+                figures,
+                fields.depth,
+                fields.width,
+                fields.height,
+                run.count,
+                run.touched,
+            );
+            0
+        }
+        Err(refusal) => u32::from(refusal),
     }
-    let fields = run.fields;
-    put_figures(
-        figures,
-        fields.depth,
-        fields.width,
-        fields.height,
-        run.count,
-        run.touched,
-    );
-    number
 }
 
 // A run over a VBK file and its text, which is left at the front of `out`; how long it is. 0 where a lent room is too short.
@@ -392,15 +391,14 @@ pub extern "C" fn bracetwill_vbk_write(
 ) -> u32
     ensures { Told request_answer buffer_after (record { lent = record { depth = depth; width = width; height = height; samples = samples.now; xs = xs.now; ys = ys.now; sizes = sizes.now; tx_types = tx_types.now; lossless = lossless.now; dcs = dcs.now; acs = acs.now; counts = counts.now; tokens = tokens.now }; out = out.entry.now; size = length.old }) result (record { out = out.exit.now; size = length.new }) }
 {
-    let written = vbk_write::vbk_write(
+    match vbk_write::vbk_write(
         depth, width, height, samples, xs, ys, sizes, tx_types, lossless, dcs, acs, counts, tokens,
         out,
-    );
-    let answer = written.answer;
-    let number = answers::code(answer);
-    if number != 0 {
-        return number;
+    ) {
+        Ok(written) => {
+            length[0] = written;
+            0
+        }
+        Err(refusal) => u32::from(refusal),
     }
-    length[0] = written.length;
-    number
 }

@@ -1,4 +1,6 @@
 -- The VBK file's answers: each number is given when, and only when, its step is the first whose condition holds.
+use Rattle.std.specs.Prelude.{Result}
+use Rattle.answers.specs.declared.Refusal.{Refusal}
 use mathlib.Core.Path.{◌≡◌, refl, sym, ap, subst, ◌∙◌}
 use mathlib.Core.Bool.{Bool, true, false, not, cond, ◌&&◌, ◌||◌}
 use mathlib.Core.List.{List, [], ◌∷◌}
@@ -12,9 +14,9 @@ use Rattle.answers.specs.Limits.{FILE_LIMIT, AREA_LIMIT}
 use Rattle.answers.specs.Bad.{bad_depth, bad_size}
 use Rattle.answers.proofs.Numbers.{Applies, there}
 use Rattle.vbk_read.specs.Bytes.{le1}
-use Rattle.vbk_read.specs.Header.{HEADER_BYTES, version_of, depth_of, plane_area, first_record, marked, bad_area, header_answer, Headed}
-use Rattle.vbk_read.specs.Records.{HEAD_BYTES, size_at, lossless_at, next_at, found, end_answer, ends, check_answer, Recorded}
-use Rattle.vbk_read.specs.declared.Header.{Header}
+use Rattle.vbk_read.specs.Header.{HEADER_BYTES, version_of, depth_of, plane_area, first_record, marked, bad_area, header_answer, number_in, Headed}
+use Rattle.vbk_read.specs.Records.{HEAD_BYTES, size_at, lossless_at, next_at, found, end_answer, ends, check_answer, is_found, is_last, record_number, Recorded}
+use Rattle.vbk_read.specs.declared.Fields.{Fields}
 use Rattle.vbk_read.specs.declared.Record.{Record}
 use Rattle.vbk.specs.Replay.{RECORD_LIMIT}
 use Rattle.vbk.specs.Promises.{roomy, run_answer, Replayed}
@@ -88,7 +90,7 @@ unfolding header_answer
 header_order s = in_order (W.Header s) W.header_numbers (header_steps s) refl tt (header_each s) (header_has s)
 
 -- `read_header`
-pub header_when : (s : List ℕ) (h : Header) → Headed s h → InOrder (W.Header s) W.header_numbers (number h.answer)
+pub header_when : (s : List ℕ) (h : Result Fields Refusal) → Headed s h → InOrder (W.Header s) W.header_numbers (number_in h)
 header_when s h p = subst (λ (n : ℕ). InOrder (W.Header s) W.header_numbers n) (sym p.answered) (header_order s)
 
 -- ---- a record
@@ -139,11 +141,11 @@ record_order s at =
     (in_order (W.Record s at) W.record_numbers (record_steps s at) refl tt (record_each s at) (record_has s at))
 
 -- what a reader finds at its place: the answer
-pub record_when : (s : List ℕ) (at : ℕ) (r : Record) → Recorded s at r → InOrder (W.Record s at) W.record_numbers (number r.answer)
+pub record_when : (s : List ℕ) (at : ℕ) (r : Record) → Recorded s at r → InOrder (W.Record s at) W.record_numbers (record_number r)
 record_when s at r p = subst (λ (n : ℕ). InOrder (W.Record s at) W.record_numbers n) (sym p.answered) (record_order s at)
 
 -- there is a further record when, and only when, a byte is left
-pub found_when : (s : List ℕ) (at : ℕ) (r : Record) → Recorded s at r → (at < length s → r.found ≡ true) × (r.found ≡ true → at < length s)
+pub found_when : (s : List ℕ) (at : ℕ) (r : Record) → Recorded s at r → (at < length s → is_found r ≡ true) × (is_found r ≡ true → at < length s)
 found_when s at r p = (λ h. p.found_is ∙ lt-ltb at (length s) h, λ e. ltb-true at (length s) (sym p.found_is ∙ e))
 
 -- the reading ends when, and only when, no byte is left or the record is cut short or of no size
@@ -169,7 +171,7 @@ ends_only s at e =
     (T.or_true (bad_size (size_at s at)) (ltb (length s) (next_at s at)) (λ q. W.Ends.size (ltb-true 3 (size_at s at) q)) (λ q. W.Ends.tokens (ltb-true (length s) (next_at s at) q)))
     (sym (ends_are s at) ∙ e)
 
-pub ends_when : (s : List ℕ) (at : ℕ) (r : Record) → Recorded s at r → (W.Ends s at → r.ends ≡ true) × (r.ends ≡ true → W.Ends s at)
+pub ends_when : (s : List ℕ) (at : ℕ) (r : Record) → Recorded s at r → (W.Ends s at → is_last r ≡ true) × (is_last r ≡ true → W.Ends s at)
 ends_when s at r p = (λ h. p.ends_is ∙ ends_if s at h, λ e. ends_only s at (sym p.ends_is ∙ e))
 
 -- ---- a run
@@ -215,13 +217,13 @@ run_order s samples answers =
     (run_has s samples answers))
 
 -- `replay`
-pub run_when : (s samples answers : List ℕ) (r : Run) (samples' answers' : List ℕ) → Replayed s samples answers r samples' answers'
-    → InOrder (W.Run s samples answers) W.run_numbers (number r.answer)
+pub run_when : (s samples answers : List ℕ) (r : Result Run Refusal) (samples' answers' : List ℕ) → Replayed s samples answers r samples' answers'
+    → InOrder (W.Run s samples answers) W.run_numbers (number_in r)
 run_when s samples answers r samples' answers' p =
     subst (λ (n : ℕ). InOrder (W.Run s samples answers) W.run_numbers n) (sym p.answered) (run_order s samples answers)
 
 -- `replay_report`: the same numbers, whatever its records are answered
-pub report_run_when : (s samples answers counts sums : List ℕ) (r : Run) (samples' answers' counts' sums' : List ℕ) → ReplayedReport s samples answers counts sums r samples' answers' counts' sums'
-    → InOrder (W.Run s samples answers) W.run_numbers (number r.answer)
+pub report_run_when : (s samples answers counts sums : List ℕ) (r : Result Run Refusal) (samples' answers' counts' sums' : List ℕ) → ReplayedReport s samples answers counts sums r samples' answers' counts' sums'
+    → InOrder (W.Run s samples answers) W.run_numbers (number_in r)
 report_run_when s samples answers counts sums r samples' answers' counts' sums' p =
     subst (λ (n : ℕ). InOrder (W.Run s samples answers) W.run_numbers n) (sym p.answered) (run_order s samples answers)

@@ -1,4 +1,6 @@
 -- One result per promise: two results that meet a call's promise on the same input coincide, the answer, every value and every lent element.
+use Rattle.std.specs.Prelude.{Result}
+use Rattle.answers.specs.declared.Refusal.{Refusal}
 use mathlib.Core.Path.{◌≡◌, sym, ap, ◌∙◌}
 use mathlib.Core.List.{List}
 use Prim.Native.Nat.{ℕ}
@@ -20,17 +22,19 @@ use Rattle.report.specs.Report as P
 use Rattle.fwd_dct.specs.Forward as F
 use Rattle.fwd_transform.specs.Quantize as Q
 use Rattle.fwd_transform.specs.ForwardWht.{Forwarded}
-use Rattle.vbk_read.specs.Header.{Headed}
+use Rattle.vbk_read.specs.Header.{header_answer, fields_of, Headed}
 use Rattle.vbk_read.specs.Records.{Recorded, Opened}
 use Rattle.vbk_read.specs.declared.Fields.{Fields}
-use Rattle.vbk_read.specs.declared.Header.{Header}
+use Rattle.vbk_read.proofs.Results.{result_unique, record_same}
 use Rattle.vbk_read.specs.declared.Record.{Record}
 use Rattle.vbk_read.specs.declared.Reader.{Reader}
-use Rattle.vbk.specs.Promises.{Replayed, Printed}
+use Rattle.vbk.specs.Promises.{run_of, run_answer, Tells, Replayed, Printed}
+use Rattle.vbk.proofs.Runs.{tells_unique}
 use Rattle.vbk.specs.declared.Run.{Run}
 use Rattle.vbk_write.specs.Lent.{Lent}
+use Rattle.vbk_write.specs.Lent.{file_of}
+use Rattle.vbk_write.specs.Promises as W
 use Rattle.vbk_write.specs.Promises.{Wrote}
-use Rattle.vbk_write.specs.declared.Written.{Written}
 use Rattle.exports.specs.Told.{Told}
 use Rattle.rows_told.specs.Rows.{row_number}
 use Rattle.exports.specs.Run.{RunTold}
@@ -109,25 +113,14 @@ pub codeable_unique : (depth : ℕ) (r t : ℤ) → r ≡ pos (codeable depth) �
 codeable_unique depth r t p q = same p q
 
 -- `read_header`
-pub header_unique : (s : List ℕ) (h k : Header) → Headed s h → Headed s k → h ≡ k
+pub header_unique : (s : List ℕ) (h k : Result Fields Refusal) → Headed s h → Headed s k → h ≡ k
 header_unique s h k p q =
-    let a = same_answer _ h.answer k.answer p.answered q.answered in
-    let f = same p.fields_are q.fields_are in
-    ap (λ (x : Answer). record { answer = x; fields = h.fields }) a ∙ ap (λ (x : Fields). record { answer = k.answer; fields = x }) f
+    result_unique (λ f. f ≡ fields_of s) (header_answer s) (λ x y p q. same p q) h k p.answered q.answered p.fields_are q.fields_are
 
 -- what is read at a place
 pub record_unique : (s : List ℕ) (at : ℕ) (r t : Record) → Recorded s at r → Recorded s at t → r ≡ t
 record_unique s at r t p q =
-    let f = same p.found_is q.found_is in
-    let e = same p.ends_is q.ends_is in
-    let a = same_answer _ r.answer t.answer p.answered q.answered in
-    let h = same p.head_is q.head_is in
-    let n = same p.next_is q.next_is in
-    ap (λ x. record { found = x; ends = r.ends; answer = r.answer; head = r.head; next = r.next }) f
-    ∙ ap (λ x. record { found = t.found; ends = x; answer = r.answer; head = r.head; next = r.next }) e
-    ∙ ap (λ x. record { found = t.found; ends = t.ends; answer = x; head = r.head; next = r.next }) a
-    ∙ ap (λ x. record { found = t.found; ends = t.ends; answer = t.answer; head = x; next = r.next }) h
-    ∙ ap (λ (x : ℕ). record { found = t.found; ends = t.ends; answer = t.answer; head = t.head; next = record { at = x } }) n
+    record_same (length s) r t (same p.found_is q.found_is) (same p.ends_is q.ends_is) (same p.answered q.answered) (same p.head_is q.head_is) (same p.next_is q.next_is)
 
 -- `open` and the reader's `next`
 pub open_unique : (file : Bor (List ℕ)) (at : ℕ) (r t : Reader) → Opened file at r → Opened file at t → r ≡ t
@@ -137,20 +130,10 @@ open_unique file at r t p q =
     ∙ ap (λ x. record { file = t.file; at = t.at; «record» = x }) (record_unique file.now at r.«record» t.«record» p.record_is q.record_is)
 
 -- `replay`
-pub replay_unique : (s samples answers : List ℕ) (r t : Run) (p₁ p₂ a₁ a₂ : List ℕ) → Replayed s samples answers r p₁ a₁ → Replayed s samples answers t p₂ a₂
+pub replay_unique : (s samples answers : List ℕ) (r t : Result Run Refusal) (p₁ p₂ a₁ a₂ : List ℕ) → Replayed s samples answers r p₁ a₁ → Replayed s samples answers t p₂ a₂
     → (r ≡ t) × (p₁ ≡ p₂) × (a₁ ≡ a₂)
 replay_unique s samples answers r t p₁ p₂ a₁ a₂ p q =
-    let a = same_answer _ r.answer t.answer p.answered q.answered in
-    let f = same p.fields_are q.fields_are in
-    let c = same p.count_is q.count_is in
-    let d = same p.touched_is q.touched_is in (
-      ap (λ x. record { answer = x; fields = r.fields; count = r.count; touched = r.touched }) a
-          ∙ ap (λ x. record { answer = t.answer; fields = x; count = r.count; touched = r.touched }) f
-          ∙ ap (λ x. record { answer = t.answer; fields = t.fields; count = x; touched = r.touched }) c
-          ∙ ap (λ x. record { answer = t.answer; fields = t.fields; count = t.count; touched = x }) d,
-      same p.samples_are q.samples_are,
-      same p.answers_are q.answers_are,
-    )
+    (result_unique (Tells s (run_of s)) (run_answer s samples answers) (tells_unique s (run_of s)) r t p.answered q.answered p.told q.told, same p.samples_are q.samples_are, same p.answers_are q.answers_are)
 
 -- `blockrun` and its export
 pub blockrun_unique : (s samples answers out : List ℕ) (r t : ℕ) (p₁ p₂ a₁ a₂ o₁ o₂ : List ℕ) → Printed s samples answers out r p₁ a₁ o₁
@@ -159,11 +142,9 @@ blockrun_unique s samples answers out r t p₁ p₂ a₁ a₂ o₁ o₂ p q =
     (same p.length_is q.length_is, same p.samples_are q.samples_are, same p.answers_are q.answers_are, same p.text_is q.text_is)
 
 -- `vbk_write`
-pub write_unique : (l : Lent) (out : List ℕ) (r t : Written) (o₁ o₂ : List ℕ) → Wrote l out r o₁ → Wrote l out t o₂ → (r ≡ t) × (o₁ ≡ o₂)
+pub write_unique : (l : Lent) (out : List ℕ) (r t : Result ℕ Refusal) (o₁ o₂ : List ℕ) → Wrote l out r o₁ → Wrote l out t o₂ → (r ≡ t) × (o₁ ≡ o₂)
 write_unique l out r t o₁ o₂ p q =
-    let a = same_answer _ r.answer t.answer p.answered q.answered in
-    let n = same p.length_is q.length_is in
-    (ap (λ x. record { answer = x; length = r.length }) a ∙ ap (λ x. record { answer = t.answer; length = x }) n, same p.out_is q.out_is)
+    (result_unique (λ n. n ≡ length (file_of l)) (W.answer_of l (length out)) (λ x y p q. same p q) r t p.answered q.answered p.length_is q.length_is, same p.out_is q.out_is)
 
 -- `bracetwill_inverse_transform_2d`, its reference, `bracetwill_inverse_transform_2d_rows`, `bracetwill_row_summary`, `bracetwill_replace_token`, `bracetwill_reconstruct_block`, `bracetwill_reconstruct_block_report`, `bracetwill_forward_wht_2d`, `bracetwill_forward_dct_2d`, `bracetwill_quantize_block_tx`, `bracetwill_quantize_block`, `bracetwill_quantize_block_rule` and `bracetwill_vbk_write`
 pub told_unique : {Given Lent : Type 0} (answer : Given → ℕ) (after : Given → Lent) (u : Given) (r t : ℕ) (k l : Lent) → Told answer after u r k

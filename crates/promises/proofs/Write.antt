@@ -1,4 +1,6 @@
 -- `vbk_write` gives each number when, and only when, its condition holds and none before it does.
+use Rattle.std.specs.Prelude.{Result}
+use Rattle.answers.specs.declared.Refusal.{Refusal}
 use mathlib.Core.Path.{◌≡◌, refl, sym, subst, ◌∙◌}
 use mathlib.Core.Bool.{Bool, true, false, not, ◌||◌}
 use mathlib.Core.List.{List, [], ◌∷◌}
@@ -15,7 +17,7 @@ use Rattle.answers.proofs.Numbers.{Applies, there}
 use Rattle.vbk_read.specs.Header.{bad_area}
 use Rattle.vbk_write.specs.Lent.{Lent, Alike, tokens_before, file_of}
 use Rattle.vbk_write.specs.Promises.{any_above, bad_lists, bad_counts, bad_total, misfit, too_large, answer_of, Wrote}
-use Rattle.vbk_write.specs.declared.Written.{Written}
+use Rattle.vbk_read.specs.Header.{number_in}
 use Rattle.vbk_write.proofs.Lengths.{alike}
 use Rattle.promises.specs.Conditions.{SomeAbove, OtherCount}
 use Rattle.promises.specs.Exactly.{InOrder}
@@ -164,5 +166,5 @@ module _ (l : Lent) (room : ℕ) where
   write_order = in_order (W.Write l room) W.write_numbers steps refl tt each has
 
 -- `vbk_write`
-pub write_when : (l : Lent) (out : List ℕ) (r : Written) (after : List ℕ) → Wrote l out r after → InOrder (W.Write l (length out)) W.write_numbers (number r.answer)
+pub write_when : (l : Lent) (out : List ℕ) (r : Result ℕ Refusal) (after : List ℕ) → Wrote l out r after → InOrder (W.Write l (length out)) W.write_numbers (number_in r)
 write_when l out r after w = subst (λ (n : ℕ). InOrder (W.Write l (length out)) W.write_numbers n) (sym w.answered) (write_order l (length out))

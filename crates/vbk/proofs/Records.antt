@@ -6,20 +6,22 @@ use Prim.Native.Nat.{ℕ, zero, suc, ◌+◌, ◌*◌, ◌-◌, ◌≤◌, ◌<�
 use native.Mathlib.Nat as N
 use native.Mathlib.Numerals.{add-one}
 use native.Mathlib.Omega.{arith}
-use borrow.Author.Tests.{le-ltb, lt-ltb, not-false, eqb-true, ltb-false}
+use borrow.Author.Tests.{le-ltb, lt-ltb, not-false, eqb-true, ltb-false, ne_eqb, both_ways}
 use lib.Dec.{ltb, eqb}
 use lib.ListN.{length, take, drop, set, length-set, take-append-drop}
 use lib.Seq.{take-suc-set, length-take-le, drop-set-lt, drop-drop}
 use Rattle.answers.proofs.Numbers.{pass, rest}
-use Rattle.answers.specs.Answers.{number}
 use Rattle.answers.specs.Sizes.{side, area}
 use Rattle.plane.specs.declared.Plane.{Plane}
 use Rattle.plane.specs.Place.{written}
 use Rattle.plane.proofs.Count.{written_block}
-use Rattle.vbk_read.specs.Records.{size_at, lossless_at, head_at, next_at, found, end_answer, ends, lossless_answer, check_answer, read_on, Recorded}
+use Rattle.vbk_read.specs.Records.{size_at, lossless_at, head_at, next_at, found, end_answer, ends, lossless_answer, check_answer, read_on, is_found, record_number, head_in, Recorded}
 use Rattle.vbk_read.specs.declared.Head.{Head}
 use Rattle.vbk_read.specs.declared.Record.{Record}
-use Rattle.vbk_read.proofs.Records.{count_least}
+use Rattle.vbk_read.specs.declared.Cursor.{Cursor}
+use Rattle.vbk_read.specs.declared.Record.TheVariants.{End, Last, Skipped, Whole}
+use Rattle.vbk_read.proofs.Records.{count_least, count_most}
+use Rattle.answers.proofs.Numbers.{refused_number}
 use Rattle.vbk.specs.Replay.{Reconstruction, After, no_record, and_then, touched_by, plane_of, rebuild_at, rebuilt_at, record_at, records}
 use Rattle.vbk.specs.Inner.{Stepped, Ran}
 
@@ -65,28 +67,28 @@ passed_is : (b : Bool) → cond {A = ℕ} b 14 0 ≡ 0 → b ≡ false
 passed_is true e = absurd (omega arith)
 passed_is false e = refl
 
-module _ (s : List ℕ) (at : ℕ) {r : Record} (d : Recorded s at r) (f : r.found ≡ true) where
+module _ (s : List ℕ) (at : ℕ) {r : Record} (d : Recorded s at r) (f : is_found r ≡ true) where
   there_is : found s at ≡ true
   there_is = sym d.found_is ∙ f
 
-  check_on : ends s at ≡ false → number r.answer ≡ lossless_answer (lossless_at s at)
+  check_on : ends s at ≡ false → record_number r ≡ lossless_answer (lossless_at s at)
   unfolding check_answer
   check_on e = d.answered ∙ rw (there_is, e)
 
-  check_last : ends s at ≡ true → number r.answer ≡ end_answer s at
+  check_last : ends s at ≡ true → record_number r ≡ end_answer s at
   unfolding check_answer
   check_last e = d.answered ∙ rw (there_is, e)
 
   -- a record that its own checks refuse
-  module _ (R : Reconstruction) (samples : List ℕ) (z : number r.answer ≡ 0 → ⊥) where
+  module _ (R : Reconstruction) (samples : List ℕ) (z : record_number r ≡ 0 → ⊥) where
     refused_lossless : ends s at ≡ false → ltb 1 (lossless_at s at) ≡ true
-    refused_lossless e = refused_is (ltb 1 (lossless_at s at)) (number r.answer) (check_on e) z
+    refused_lossless e = refused_is (ltb 1 (lossless_at s at)) (record_number r) (check_on e) z
 
-    pub refused_answer : number r.answer ≡ (record_at R s at samples).answer
+    pub refused_answer : record_number r ≡ (record_at R s at samples).answer
     unfolding record_at rebuilt_at
     refused_answer = go (ends s at) refl
       where
-        go : (b : Bool) → ends s at ≡ b → number r.answer ≡ (record_at R s at samples).answer
+        go : (b : Bool) → ends s at ≡ b → record_number r ≡ (record_at R s at samples).answer
         go true e = check_last e ∙ sym (rw e)
         go false e = check_on e ∙ rw (refused_lossless e, e)
 
@@ -99,7 +101,7 @@ module _ (s : List ℕ) (at : ℕ) {r : Record} (d : Recorded s at r) (f : r.fou
         go false e = rw (refused_lossless e, e)
 
   -- a record that its own checks pass
-  module _ (z : number r.answer ≡ 0) where
+  module _ (z : record_number r ≡ 0) where
     pub goes_on : ends s at ≡ false
     goes_on = go (ends s at) refl
       where
@@ -110,7 +112,7 @@ module _ (s : List ℕ) (at : ℕ) {r : Record} (d : Recorded s at r) (f : r.fou
     pub good_lossless : ltb 1 (lossless_at s at) ≡ false
     good_lossless = passed_is (ltb 1 (lossless_at s at)) (sym (check_on goes_on) ∙ z)
 
-    pub head_there : r.head ≡ head_at s at
+    pub head_there : head_in r ≡ head_at s at
     head_there = d.head_is ∙ rw (goes_on, good_lossless)
 
     pub rebuilt_is : (R : Reconstruction) (samples : List ℕ) → record_at R s at samples ≡ rebuild_at R s at samples
@@ -118,7 +120,7 @@ module _ (s : List ℕ) (at : ℕ) {r : Record} (d : Recorded s at r) (f : r.fou
     rebuilt_is R samples = rw (goes_on, good_lossless)
 
     -- what reconstruction asks
-    pub whole_record : (size_at s at ≤ 3) × (next_at s at ≤ length s) × (r.head ≡ head_at s at)
+    pub whole_record : (size_at s at ≤ 3) × (next_at s at ≤ length s) × (head_in r ≡ head_at s at)
     whole_record = let w = there s at goes_on in (w.0, w.1, head_there)
 
 -- a record that ends the reading touches nothing
@@ -132,25 +134,25 @@ last_touched R s at samples p head e = ap (λ (x : ℕ). touched_by x p head) (l
 
 -- the size in a record's head: 0 where it gives no value
 module _ (s : List ℕ) (at : ℕ) {r : Record} (d : Recorded s at r) where
-  pub head_size : r.head.size ≤ 3
+  pub head_size : (head_in r).size ≤ 3
   head_size = go (ends s at) (ltb 1 (lossless_at s at)) refl refl
     where
-      go : (b c : Bool) → ends s at ≡ b → ltb 1 (lossless_at s at) ≡ c → r.head.size ≤ 3
-      go true c e h = let k : r.head.size ≡ 0 = ap (λ (x : Head). x.size) d.head_is ∙ rw e in omega (arith, k)
-      go false true e h = let k : r.head.size ≡ 0 = ap (λ (x : Head). x.size) d.head_is ∙ rw (e, h) in omega (arith, k)
-      go false false e h = let k : r.head.size ≡ size_at s at = ap (λ (x : Head). x.size) d.head_is ∙ rw (e, h) in omega (arith, k, (there s at e).0)
+      go : (b c : Bool) → ends s at ≡ b → ltb 1 (lossless_at s at) ≡ c → (head_in r).size ≤ 3
+      go true c e h = let k : (head_in r).size ≡ 0 = ap (λ (x : Head). x.size) d.head_is ∙ rw e in omega (arith, k)
+      go false true e h = let k : (head_in r).size ≡ 0 = ap (λ (x : Head). x.size) d.head_is ∙ rw (e, h) in omega (arith, k)
+      go false false e h = let k : (head_in r).size ≡ size_at s at = ap (λ (x : Head). x.size) d.head_is ∙ rw (e, h) in omega (arith, k, (there s at e).0)
 
   -- and the head is the record's own, wherever it is counted
-  pub touched_head : (R : Reconstruction) (samples : List ℕ) → r.found ≡ true
-      → touched_by (record_at R s at samples).answer (plane_of s) r.head ≡ touched_by (record_at R s at samples).answer (plane_of s) (head_at s at)
+  pub touched_head : (R : Reconstruction) (samples : List ℕ) → is_found r ≡ true
+      → touched_by (record_at R s at samples).answer (plane_of s) (head_in r) ≡ touched_by (record_at R s at samples).answer (plane_of s) (head_at s at)
   unfolding touched_by record_at rebuilt_at
   touched_head R samples f = go (ends s at) (ltb 1 (lossless_at s at)) refl refl
     where
       go : (b c : Bool) → ends s at ≡ b → ltb 1 (lossless_at s at) ≡ c
-          → touched_by (record_at R s at samples).answer (plane_of s) r.head ≡ touched_by (record_at R s at samples).answer (plane_of s) (head_at s at)
-      go true c e h = last_touched R s at samples (plane_of s) r.head e ∙ sym (last_touched R s at samples (plane_of s) (head_at s at) e)
+          → touched_by (record_at R s at samples).answer (plane_of s) (head_in r) ≡ touched_by (record_at R s at samples).answer (plane_of s) (head_at s at)
+      go true c e h = last_touched R s at samples (plane_of s) (head_in r) e ∙ sym (last_touched R s at samples (plane_of s) (head_at s at) e)
       go false true e h = rw (e, h)
-      go false false e h = let k : r.head ≡ head_at s at = d.head_is ∙ rw (e, h) in ap (touched_by (record_at R s at samples).answer (plane_of s)) k
+      go false false e h = let k : head_in r ≡ head_at s at = d.head_is ∙ rw (e, h) in ap (touched_by (record_at R s at samples).answer (plane_of s)) k
 
 -- what is done of a run, and what is left of it
 pub record SoFar (total : After) (answers : List ℕ) (count touched : ℕ) (left : After) : Type 0 where
@@ -192,6 +194,24 @@ touched_most a p head = go (eqb a 0)
     go true = written_block p head.x head.y (side (head.size + 2))
     go false = omega arith
 
+-- a record touches a block at most
+pub touched_few_at : (R : Reconstruction) (s : List ℕ) (at : ℕ) (samples : List ℕ) {r : Record} → Recorded s at r → is_found r ≡ true → touched_by (record_at R s at samples).answer (plane_of s) (head_at s at) ≤ 1024
+touched_few_at R s at samples {r} d f =
+    let a = (record_at R s at samples).answer in
+    omega (arith, touched_head s at d R samples f, touched_most a (plane_of s) (head_in r), count_most (head_in r).size (head_size s at d))
+
+-- and nothing where it is refused
+pub none_touched : (a : ℕ) (p : Plane) (head : Head) → (a ≡ 0 → ⊥) → 0 ≡ touched_by a p head
+unfolding touched_by
+none_touched a p head z = rw (ne_eqb a 0 z)
+
+-- a record that is there and is not whole is refused
+pub not_whole : (r : Record) → is_found r ≡ true → ((h : Head) (c : Cursor) → r ≡ Whole h c → ⊥) → record_number r ≡ 0 → ⊥
+not_whole End f n z = both_ways false refl f
+not_whole (Last a) f n z = refused_number a z
+not_whole (Skipped a c) f n z = refused_number a z
+not_whole (Whole h c) f n z = n h c refl
+
 -- one record more, from `at` to the place to read on from
 module _ (R : Reconstruction) (s : List ℕ) (at : ℕ) (samples : List ℕ) (h : at < length s) where
   pub placed_step : {count touched : ℕ} → length s ≤ 65535 → Placed s count touched at
@@ -228,7 +248,6 @@ pub record Reading (R : Reconstruction) (s : List ℕ) (from : ℕ) (samples₀ 
   pub far : SoFar (records R s (length s) from samples₀) answers count touched (records R s (length s - count) at samples)
   pub as_long : length answers ≡ length answers₀
   pub behind : drop count answers ≡ drop count answers₀
-  pub samples_as_long : length samples ≡ length samples₀
 
 module _ (R : Reconstruction) (s : List ℕ) (from : ℕ) (samples₀ answers₀ : List ℕ) where
   pub reading_none : 12 ≤ from → from ≤ length s → Reading R s from samples₀ answers₀ samples₀ answers₀ from 0 0
@@ -238,16 +257,15 @@ module _ (R : Reconstruction) (s : List ℕ) (from : ℕ) (samples₀ answers₀
         far = rw (N.sub-zero (length s)) (far_none (records R s (length s) from samples₀) answers₀);
         as_long = refl;
         behind = refl;
-        samples_as_long = refl;
       }
 
   module _ {samples answers : List ℕ} {at count touched : ℕ} (g : Reading R s from samples₀ answers₀ samples answers at count touched) where
     pub reading_room : length s ≤ 65535 → 874 ≤ length answers₀ → at < length s → count < length answers
     reading_room small room h = omega (arith, g.placed.spaced h, g.as_long)
 
-    pub reading_more : {samples' answers' : List ℕ} {count' touched' : ℕ} → length s ≤ 65535 → 874 ≤ length answers₀ → at < length s → Stepped R s at samples answers count touched samples' answers' count' touched' → length samples' ≡ length samples
+    pub reading_more : {samples' answers' : List ℕ} {count' touched' : ℕ} → length s ≤ 65535 → 874 ≤ length answers₀ → at < length s → Stepped R s at samples answers count touched samples' answers' count' touched'
         → Reading R s from samples₀ answers₀ samples' answers' (read_on s at) count' touched'
-    reading_more {samples'} {answers'} {count'} {touched'} small room h d l =
+    reading_more {samples'} {answers'} {count'} {touched'} small room h d =
         let k : length s - count ≡ suc (length s - (count + 1)) = omega (arith, g.placed.spaced h) in
         let a = (record_at R s at samples).answer in
         let t = touched_by a (plane_of s) (head_at s at) in
@@ -261,7 +279,6 @@ module _ (R : Reconstruction) (s : List ℕ) (from : ℕ) (samples₀ answers₀
           as_long = length-set answers count a ∙ g.as_long;
           behind =
               drop-set-lt (count + 1) answers count a (omega arith) ∙ sym (drop-drop 1 count answers) ∙ ap (drop 1) g.behind ∙ drop-drop 1 count answers₀;
-          samples_as_long = ap length (sym d.samples_are) ∙ l ∙ g.samples_as_long;
         })
 
     pub reading_done : length s ≤ 65535 → 874 ≤ length answers₀ → length s ≤ at → Ran (records R s (length s) from samples₀) count touched answers₀ answers samples

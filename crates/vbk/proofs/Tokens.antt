@@ -10,15 +10,15 @@ use lib.Seq.{get_or-take, length-take-le}
 use Rattle.whole.specs.Lists.{fill, tabulate}
 use Rattle.whole.proofs.Lists.{length_fill, fill_below, tabulate_is}
 use Rattle.answers.specs.Sizes.{area}
+use Rattle.plane.specs.declared.Plane.{Plane}
 use Rattle.reconstruct.specs.Reconstruct.{Input, answer_of, samples_after}
 use Rattle.vbk_read.specs.Header.{fields_of}
 use Rattle.vbk_read.specs.Records.{size_at, head_at, token_at, tokens_at, next_at}
 use Rattle.vbk_read.specs.declared.Fields.{Fields}
 use Rattle.vbk_read.specs.declared.Head.{Head}
 use Rattle.vbk_read.proofs.Records.{count_most}
-use Rattle.vbk.specs.Replay.{rebuild_at}
+use Rattle.vbk.specs.Replay.{Reconstruction, block_of, rebuild_at}
 use Rattle.vbk.specs.Filled.{reconstruction}
-use Rattle.vbk.specs.Inner.{reconstruct_at}
 
 take_fill : (n : ℕ) (g : ℕ → ℤ) (u : List ℤ) → n ≤ length u → take n (fill n g u) ≡ tabulate g n
 take_fill n g u h =
@@ -52,12 +52,18 @@ module _ (s : List ℕ) (at : ℕ) (head : Head) (n : ℕ) (small : size_at s at
         ∙ ap (λ (h : Head). tabulate (token_at s h.next.at) n) is ∙ ap (tabulate (token_at s (at + 11))) count_is
 
 -- reconstruction on the numbers that were read is the run's
-module _ (s : List ℕ) (at : ℕ) (samples : List ℕ) (head : Head) (fields : Fields) (tokens : List ℤ) (dc ac : ℤ) where
+module _ (R : Reconstruction) (s : List ℕ) (at : ℕ) (samples : List ℕ) {head : Head} {fields : Fields} {tokens : List ℤ} (h : head ≡ head_at s at) (f : fields ≡ fields_of s) (t : tokens ≡ tokens_at s at) where
+  pub block_is : block_of R fields head tokens samples ≡ rebuild_at R s at samples
+  unfolding rebuild_at
+  block_is = rw (h, f, t)
+
+-- a block with nothing beside the plane
+module _ (samples : List ℕ) (fields : Fields) (head : Head) (tokens : List ℤ) {dc ac : ℤ} {plane : Plane} (p : plane ≡ record { width = fields.width; height = fields.height; stride = fields.width }) (d : dc ≡ pos head.dc) (a : ac ≡ pos head.ac) where
   abbrev given : Input
   given =
       record {
         samples = samples;
-        plane = record { width = fields.width; height = fields.height; stride = fields.width };
+        plane = plane;
         x = head.x;
         y = head.y;
         size = head.size;
@@ -69,11 +75,10 @@ module _ (s : List ℕ) (at : ℕ) (samples : List ℕ) (head : Head) (fields : 
         depth = fields.depth;
       }
 
-  module _ (h : head ≡ head_at s at) (f : fields ≡ fields_of s) (t : tokens ≡ tokens_at s at) (d : dc ≡ pos head.dc) (a : ac ≡ pos head.ac) where
-    pub answer_is : answer_of given ≡ (reconstruct_at s at samples).answer
-    unfolding rebuild_at reconstruction
-    answer_is = rw (d, a, h, f, t)
+  pub answer_is : answer_of given ≡ (block_of reconstruction fields head tokens samples).answer
+  unfolding reconstruction
+  answer_is = rw (p, d, a)
 
-    pub samples_are : samples_after given ≡ (reconstruct_at s at samples).samples
-    unfolding rebuild_at reconstruction
-    samples_are = rw (d, a, h, f, t)
+  pub samples_are : samples_after given ≡ (block_of reconstruction fields head tokens samples).samples
+  unfolding reconstruction
+  samples_are = rw (p, d, a)

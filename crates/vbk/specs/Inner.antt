@@ -3,13 +3,8 @@ use Rattle.std.specs.Prelude.{◌≡◌, List, ◌++◌, ℕ, ◌+◌, ◌*◌, 
 use Rattle.answers.specs.Limits.{FILE_LIMIT}
 use Rattle.vbk_read.specs.Records.{head_at}
 use Rattle.vbk_text.specs.Text.{Outcome, ran}
-use Rattle.vbk.specs.Replay.{Reconstruction, Rebuilt, After, RECORD_LIMIT, touched_by, plane_of, rebuild_at, record_at}
-use Rattle.vbk.specs.Filled.{reconstruction}
+use Rattle.vbk.specs.Replay.{Reconstruction, After, RECORD_LIMIT, touched_by, plane_of, record_at}
 use Rattle.vbk.specs.declared.Run.{Run}
-
--- what reconstruction does with the record at a place
-abbrev pub reconstruct_at : List ℕ → ℕ → List ℕ → Rebuilt
-reconstruct_at s at samples = rebuild_at reconstruction s at samples
 
 -- one record more: its answer is kept and counted, its touched count added, and the samples are as it leaves them
 pub record Stepped (R : Reconstruction) (s : List ℕ) (at : ℕ) (samples answers : List ℕ) (count touched : ℕ) (samples' answers' : List ℕ) (count' touched' : ℕ) : Type 0 where

@@ -2,6 +2,8 @@
 use Rattle.std.specs.Prelude.{Bool, cond, List, [], ◌∷◌, ℕ, zero, suc, ◌+◌, ltb, eqb, ℤ, pos, length}
 use Rattle.plane.specs.declared.Plane.{Plane}
 use Rattle.vbk_read.specs.Header.{version_of, depth_of, width_of, height_of, samples_of, first_record, header_answer}
+use Rattle.vbk_read.specs.declared.Fields.{Fields}
+use Rattle.vbk_read.specs.declared.Head.{Head}
 use Rattle.vbk_read.specs.Records.{size_at, lossless_at, head_at, tokens_at, found, end_answer, ends, read_on}
 use Rattle.vbk_text.specs.Text.{Outcome, refused, ran}
 unfoldable pub use Rattle.touched.specs.Touched.{touched_by}
@@ -14,6 +16,11 @@ pub record Rebuilt : Type 0 where
 -- what a record does to a plane's samples
 abbrev pub Reconstruction : Type 0
 Reconstruction = (samples : List ℕ) (width height x y size : ℕ) (tokens : List ℤ) (dc ac : ℤ) (tx_type : ℕ) (lossless : Bool) (depth : ℕ) → Rebuilt
+
+-- reconstruction with the numbers of a header and of a record's head
+abbrev pub block_of : Reconstruction → Fields → Head → List ℤ → List ℕ → Rebuilt
+block_of R f h tokens samples =
+    R samples f.width f.height h.x h.y h.size tokens (pos h.dc) (pos h.ac) h.tx_type (eqb h.lossless 1) f.depth
 
 -- every record's answer in order, the samples afterwards and the touched count
 pub record After : Type 0 where

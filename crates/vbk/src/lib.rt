@@ -1,23 +1,23 @@
 // A run over a VBK file.
 #![tactic(auto)]
 
-ghost use Rattle.std.specs.Prelude.{◌≡◌, ◌+◌, ◌*◌, ◌≤◌, ◌<◌, pos, true, length};
+ghost use Rattle.std.specs.Prelude.{◌≡◌, List, ℕ, ◌+◌, ◌*◌, ◌≤◌, ◌<◌, pos, true, length};
 ghost use Rattle.answers.specs.Answers.{number};
-ghost use Rattle.vbk_read.specs.Header.{plane_area, header_answer, fields_of, no_fields};
-ghost use Rattle.vbk_read.specs.Records.{size_at, head_at, next_at, Recorded};
 ghost use Rattle.answers.specs.Limits.{FILE_LIMIT};
-ghost use Rattle.vbk.specs.Replay.{RECORD_LIMIT, record_at, records};
+ghost use Rattle.vbk_read.specs.Header.{plane_area, samples_of, header_answer, fields_of};
+ghost use Rattle.vbk_read.specs.Records.{size_at, head_at, next_at, is_found, Recorded};
+ghost use Rattle.vbk.specs.Replay.{Reconstruction, RECORD_LIMIT, touched_by, plane_of, rebuild_at, record_at, records, block_of};
 ghost use Rattle.vbk.specs.Filled.{reconstruction};
-ghost use Rattle.vbk.specs.Promises.{run_of, Replayed, Printed};
-ghost use Rattle.vbk.specs.Inner.{reconstruct_at, Stepped, Ran, outcome_of};
+ghost use Rattle.vbk.specs.Promises.{run_by, roomy, Played, Replayed, Printed};
+ghost use Rattle.vbk.specs.Inner.{Stepped, Ran, outcome_of};
 ghost use Rattle.vbk_text.specs.Text.{text};
 ghost use Rattle.vbk_text.specs.Inner.{Room, Put};
 
-use answers::Answer;
+use answers::{Answer, Refusal};
 use plane::Plane;
 use quant::{AcQuant, DcQuant};
 pub use touched::touched_by;
-use vbk_read::{Cursor, Fields, Head, Record};
+use vbk_read::{Fields, Head, Record};
 
 // No file has more records: the first one stands at byte 12 or later, and all but the last take 75 bytes or more.
 pub const RECORD_LIMIT: usize = 874;
@@ -32,49 +32,111 @@ pub fn number8(a: Answer) -> u8
 pub fn quantizer(q: u16) -> i32
     ensures { result ≡ pos q }
 {
-    q as i32
+    i32::from(q)
+}
+
+// What a run does with each block of a file: to the samples, and to what it keeps beside them, such as a report.
+pub trait Reconstruct {
+    // the samples and what is kept beside them, in one list
+    ghost beside: { List ℕ → Self → List ℕ };
+
+    // what is done to that list
+    ghost rebuilds: { Reconstruction };
+
+    // One block: its answer, and all of that list afterwards.
+    fn block(&mut self, samples: &mut [u16], fields: Fields, head: Head, tokens: &[i64]) -> Answer
+        ensures answered { number result ≡ (block_of rebuilds fields head tokens.now (beside samples.old self.old)).answer }
+        ensures written { beside samples.new self.new ≡ (block_of rebuilds fields head tokens.now (beside samples.old self.old)).samples };
+}
+
+// The plane alone, with nothing beside it.
+#[derive(Clone, Copy)]
+pub struct Alone;
+
+impl Reconstruct for Alone {
+    ghost beside = { λ samples _. samples };
+
+    ghost rebuilds = { reconstruction };
+
+    fn block(&mut self, samples: &mut [u16], fields: Fields, head: Head, tokens: &[i64]) -> Answer {
+        reconstruct::reconstruct_block(
+            samples,
+            plane_of(fields),
+            head.x as usize,
+            head.y as usize,
+            head.size as u32,
+            tokens,
+            DcQuant(quantizer(head.dc)),
+            AcQuant(quantizer(head.ac)),
+            head.tx_type,
+            head.lossless == 1,
+            fields.depth as u32,
+        )
+    }
+}
+
+// The plane of a file: its lines have no padding.
+pub fn plane_of(fields: Fields) -> Plane
+    ensures { result ≡ record { width = fields.width; height = fields.height; stride = fields.width } }
+{
+    let width = fields.width as usize;
+    Plane {
+        width,
+        height: fields.height as usize,
+        stride: width,
+    }
 }
 
 // The record at a place, whole and with a good lossless byte: its tokens are read, and reconstruction answers.
-fn rebuild(file: &[u8], at: usize, head: Head, fields: Fields, samples: &mut [u16]) -> Answer
+fn rebuild<B: Reconstruct>(
+    file: &[u8],
+    at: usize,
+    head: Head,
+    fields: Fields,
+    samples: &mut [u16],
+    blocks: &mut B,
+) -> Answer
     requires { (size_at file.now at ≤ 3) × (next_at file.now at ≤ length file.now) × (head ≡ head_at file.now at) × (fields ≡ fields_of file.now) }
-    ensures { (number result ≡ (reconstruct_at file.now at samples.old).answer) × (samples.new ≡ (reconstruct_at file.now at samples.old).samples) }
+    ensures answered { number result ≡ (rebuild_at B.rebuilds file.now at (B.beside samples.old blocks.old)).answer }
+    ensures written { B.beside samples.new blocks.new ≡ (rebuild_at B.rebuilds file.now at (B.beside samples.old blocks.old)).samples }
 {
     let n = answers::area(head.size as u32 + 2);
     let mut tokens = words::zeros();
     let start = head.next;
     start.read_tokens(file, n, &mut tokens);
-    let width = fields.width as usize;
-    reconstruct::reconstruct_block(
-        samples,
-        Plane {
-            width,
-            height: fields.height as usize,
-            stride: width,
-        },
-        head.x as usize,
-        head.y as usize,
-        head.size as u32,
-        &tokens[..n],
-        DcQuant(quantizer(head.dc)),
-        AcQuant(quantizer(head.ac)),
-        head.tx_type,
-        head.lossless == 1,
-        fields.depth as u32,
-    )
+    blocks.block(samples, fields, head, &tokens[..n])
 }
 
-// The record's answer: that of its own checks, or reconstruction's.
-fn answer_record(file: &[u8], at: usize, record: Record, fields: Fields, samples: &mut [u16]) -> u8
-    requires { (fields ≡ fields_of file.now) × Recorded file.now at «record» × («record».found ≡ true) }
-    ensures { (result ≡ (record_at reconstruction file.now at samples.old).answer) × (samples.new ≡ (record_at reconstruction file.now at samples.old).samples) }
+// What a record comes to: its answer as it is kept, and its touched count.
+#[derive(Clone, Copy)]
+struct Outcome {
+    answer: u8,
+    touched: usize,
+}
+
+// A record's answer, reconstruction's or that of its own checks, which change nothing and touch nothing.
+fn answer_record<B: Reconstruct>(
+    file: &[u8],
+    at: usize,
+    record: Record,
+    fields: Fields,
+    samples: &mut [u16],
+    blocks: &mut B,
+) -> Outcome
+    requires { (fields ≡ fields_of file.now) × Recorded file.now at «record» × (is_found «record» ≡ true) }
+    ensures answered { result.answer ≡ (record_at B.rebuilds file.now at (B.beside samples.old blocks.old)).answer }
+    ensures touched { result.touched ≡ touched_by (record_at B.rebuilds file.now at (B.beside samples.old blocks.old)).answer (plane_of file.now) (head_at file.now at) }
+    ensures written { B.beside samples.new blocks.new ≡ (record_at B.rebuilds file.now at (B.beside samples.old blocks.old)).samples }
 {
-    let checks = record.answer;
-    let own = number8(checks);
-    if own != 0 {
-        return own;
+    if let Record::Whole(head, _) = record {
+        let answer = number8(rebuild(file, at, head, fields, samples, blocks));
+        let touched = touched_by(answer, fields, head);
+        return Outcome { answer, touched };
     }
-    number8(rebuild(file, at, record.head, fields, samples))
+    Outcome {
+        answer: number8(record.answer()),
+        touched: 0,
+    }
 }
 
 // How many records were read, and the touched count.
@@ -85,7 +147,7 @@ pub struct Tally {
 }
 
 // One record of the run: its answer is kept, and its touched count added.
-fn one_record(
+fn one_record<B: Reconstruct>(
     file: &[u8],
     at: usize,
     record: Record,
@@ -93,36 +155,38 @@ fn one_record(
     samples: &mut [u16],
     answers: &mut [u8],
     tally: Tally,
+    blocks: &mut B,
 ) -> Tally
-    requires { (fields ≡ fields_of file.now) × Recorded file.now at «record» × («record».found ≡ true) × (tally.count < length answers.old) × (tally.touched ≤ FILE_LIMIT) }
-    ensures { Stepped reconstruction file.now at samples.old answers.old tally.count tally.touched samples.new answers.new result.count result.touched }
+    requires { (fields ≡ fields_of file.now) × Recorded file.now at «record» × (is_found «record» ≡ true) × (tally.count < length answers.old) × (tally.touched ≤ FILE_LIMIT) }
+    ensures { Stepped B.rebuilds file.now at (B.beside samples.old blocks.old) answers.old tally.count tally.touched (B.beside samples.new blocks.new) answers.new result.count result.touched }
 {
-    let answer = answer_record(file, at, record, fields, samples);
+    let outcome = answer_record(file, at, record, fields, samples, blocks);
     let count = tally.count;
-    answers[count] = answer;
+    answers[count] = outcome.answer;
     Tally {
         count: count + 1,
-        touched: tally.touched + touched_by(answer, fields, record.head),
+        touched: tally.touched + outcome.touched,
     }
 }
 
-// The records from a place on, until there is none: one reader from the first to the last.
-fn read_records(
+// The records from a place on, until there is none: one reader from the first to the last, walked by hand.
+fn read_records<B: Reconstruct>(
     file: &[u8],
     from: usize,
     fields: Fields,
     samples: &mut [u16],
     answers: &mut [u8],
+    blocks: &mut B,
 ) -> Tally
     requires { (fields ≡ fields_of file.now) × (length file.now ≤ FILE_LIMIT) × (12 ≤ from) × (from ≤ length file.now) × (RECORD_LIMIT ≤ length answers.old) }
-    ensures { Ran (records reconstruction file.now (length file.now) from samples.old) result.count result.touched answers.old answers.new samples.new }
+    ensures { Ran (records B.rebuilds file.now (length file.now) from (B.beside samples.old blocks.old)) result.count result.touched answers.old answers.new (B.beside samples.new blocks.new) }
 {
     let mut reader = vbk_read::open(file, from);
     let mut tally = Tally {
         count: 0,
         touched: 0,
     };
-    while reader.record.found {
+    while reader.record.is_found() {
         tally = one_record(
             file,
             reader.at,
@@ -131,6 +195,7 @@ fn read_records(
             samples,
             answers,
             tally,
+            blocks,
         );
         reader = reader.next();
     }
@@ -138,68 +203,65 @@ fn read_records(
 }
 
 // The samples as the file has them, then the records.
-fn play(file: &[u8], fields: Fields, samples: &mut [u16], answers: &mut [u8]) -> Tally
+fn play<B: Reconstruct>(
+    file: &[u8],
+    fields: Fields,
+    samples: &mut [u16],
+    answers: &mut [u8],
+    blocks: &mut B,
+) -> Tally
     requires { (header_answer file.now ≡ 0) × (fields ≡ fields_of file.now) × (length samples.old ≡ plane_area file.now) × (RECORD_LIMIT ≤ length answers.old) }
-    ensures { Ran (run_of file.now) result.count result.touched answers.old answers.new samples.new }
+    ensures { Ran (run_by B.rebuilds file.now (B.beside (samples_of file.now) blocks.old)) result.count result.touched answers.old answers.new (B.beside samples.new blocks.new) }
 {
     let n = samples.len();
     let start = fields.next;
     let first = start.read_samples(file, n, samples);
-    let from = first.at;
-    read_records(file, from, fields, samples, answers)
+    read_records(file, first.at, fields, samples, answers, blocks)
 }
 
-// A run's outcome: the answer and the header, how many records were read, and the touched count.
+// A run that is not refused: the header, how many records were read, and the touched count.
 #[derive(Clone, Copy)]
 pub struct Run {
-    pub answer: Answer,
     pub fields: Fields,
     pub count: usize,
     pub touched: usize,
 }
 
-// A run that is refused: the answer, and zeros.
-pub fn refused(answer: Answer) -> Run
-    ensures { result ≡ record { answer = answer; fields = no_fields; count = 0; touched = 0 } }
+// The lent rooms hold any run's plane and answers.
+fn roomy(samples: &[u16], answers: &[u8]) -> bool
+    ensures { result ≡ roomy samples.now answers.now }
 {
-    Run {
-        answer,
-        fields: Fields {
-            version: 0,
-            depth: 0,
-            width: 0,
-            height: 0,
-            next: Cursor { at: 0 },
-        },
-        count: 0,
-        touched: 0,
-    }
+    answers::AREA_LIMIT <= samples.len() && RECORD_LIMIT <= answers.len()
 }
 
-// A run over a file: the plane is left at the front of `samples`, and every record's answer at the front of `answers`.
-pub fn replay(file: &[u8], samples: &mut [u16], answers: &mut [u8]) -> Run
-    ensures { Replayed file.now samples.old answers.old result samples.new answers.new }
+// A run over a file, its blocks reconstructed by `blocks`: the plane is left at the front of `samples`, and every record's answer at the front
+// of `answers`. Refused, all is as it was.
+pub fn replay_with<B: Reconstruct>(
+    file: &[u8],
+    samples: &mut [u16],
+    answers: &mut [u8],
+    blocks: &mut B,
+) -> Result<Run, Refusal>
+    ensures { Played B.rebuilds B.beside file.now samples.old answers.old blocks.old result samples.new answers.new blocks.new }
 {
-    if samples.len() < answers::AREA_LIMIT {
-        return refused(Answer::Length);
+    if !roomy(samples, answers) {
+        return Err(Refusal::Length);
     }
-    if answers.len() < RECORD_LIMIT {
-        return refused(Answer::Length);
-    }
-    let h = vbk_read::read_header(file);
-    let answer = h.answer;
-    if answers::code(answer) != 0 {
-        return refused(answer);
-    }
-    let fields = h.fields;
+    let fields = vbk_read::read_header(file)?;
     let n = vbk_read::plane_area(fields.width, fields.height);
-    let tally = play(file, fields, &mut samples[..n], answers);
-    Run {
-        answer,
+    let tally = play(file, fields, &mut samples[..n], answers, blocks);
+    Ok(Run {
         fields,
         count: tally.count,
         touched: tally.touched,
-    }
+    })
+}
+
+// A run over a file, with nothing beside the plane.
+pub fn replay(file: &[u8], samples: &mut [u16], answers: &mut [u8]) -> Result<Run, Refusal>
+    ensures { Replayed file.now samples.old answers.old result samples.new answers.new }
+{
+    replay_with(file, samples, answers, &mut Alone)
 }
 
 // The text of a run that is not refused.
@@ -210,10 +272,10 @@ fn print_run(run: Run, samples: &[u16], answers: &[u8], out: &mut [u8]) -> usize
     let fields = run.fields;
     let count = run.count;
     let n = vbk_read::plane_area(fields.width, fields.height);
-    let version = words::wide16(fields.version);
-    let depth = words::byte64(fields.depth);
-    let width = words::count16(fields.width);
-    let height = words::count16(fields.height);
+    let version = u64::from(fields.version);
+    let depth = u64::from(fields.depth);
+    let width = usize::from(fields.width);
+    let height = usize::from(fields.height);
     vbk_text::write_run(
         out,
         version,
@@ -233,17 +295,11 @@ pub fn blockrun(file: &[u8], samples: &mut [u16], answers: &mut [u8], out: &mut 
     if out.len() < vbk_text::TEXT_LIMIT {
         return 0;
     }
-    if samples.len() < answers::AREA_LIMIT {
+    if !roomy(samples, answers) {
         return 0;
     }
-    if answers.len() < RECORD_LIMIT {
-        return 0;
+    match replay(file, samples, answers) {
+        Ok(run) => print_run(run, samples, answers, out),
+        Err(refusal) => vbk_text::write_refusal(out, u64::from(u32::from(refusal))),
     }
-    let run = replay(file, samples, answers);
-    let answer = run.answer;
-    let number = answers::code(answer);
-    if number != 0 {
-        return vbk_text::write_refusal(out, number as u64);
-    }
-    print_run(run, samples, answers, out)
 }

@@ -1,19 +1,21 @@
 -- Laws of a record: its checks one by one, the record that ends the reading and the one after which it goes on; its numbers read one after another.
 use mathlib.Core.Path.{◌≡◌, refl}
-use mathlib.Core.Bool.{true, false, cond}
+use mathlib.Core.Bool.{true, false}
 use mathlib.Core.List.{List}
 use Prim.Native.Nat.{ℕ, zero, suc, ◌+◌, ◌≤◌, ◌<◌}
 use native.Mathlib.Omega.{arith}
 use borrow.Author.Tests.{lt-ltb, le-ltb, ne_eqb}
 use lib.Dec.{ltb}
 use lib.ListN.{length}
-use Rattle.answers.specs.Answers.{Answer, number}
+use Rattle.answers.specs.Answers.{refusal_number}
 use Rattle.answers.specs.Sizes.{area}
+use Rattle.answers.specs.declared.Refusal.{Refusal}
+use Rattle.answers.specs.declared.Refusal.TheVariants.{LosslessByte}
 use Rattle.vbk_read.specs.Bytes.{le1, le2}
-use Rattle.vbk_read.specs.Records.{size_at, lossless_at, head_at, no_head, next_at, end_answer, lossless_answer, check_answer, Recorded}
-use Rattle.vbk_read.specs.Inner.{Took, ending}
+use Rattle.vbk_read.specs.Records.{size_at, lossless_at, head_at, next_at, end_answer, check_answer, Recorded}
+use Rattle.vbk_read.specs.Inner.{Took}
 use Rattle.vbk_read.specs.declared.Head.{Head}
-use Rattle.vbk_read.specs.declared.Record.{Record}
+use Rattle.vbk_read.specs.declared.Record.TheVariants.{End, Last, Skipped, Whole}
 
 -- seven numbers read one after another
 pub head : (s : List ℕ) (at x y size tx_type lossless dc ac n1 n2 n3 n4 n5 n6 n7 : ℕ)
@@ -61,38 +63,51 @@ module _ (s : List ℕ) (at : ℕ) where
   goes_on h k l = rw (le-ltb (length s) (at + 11) h, le-ltb 3 (size_at s at) k, le-ltb (length s) (next_at s at) l)
 
   -- no byte is left
-  pub none : {r : Record} → r ≡ ending false Done (length s) → length s ≤ at → Recorded s at r
+  pub none : length s ≤ at → Recorded s at End
   unfolding check_answer
-  none {r} e h =
-      rw e (record {
+  none h =
+      record {
         found_is = rw (le-ltb at (length s) h) refl;
         ends_is = rw (cut_head (omega arith)) refl;
         answered = rw (le-ltb at (length s) h) refl;
         head_is = rw (cut_head (omega arith)) refl;
         next_is = rw (cut_head (omega arith)) refl;
-      })
+      }
 
   -- the record that ends the reading
-  pub last : (n : ℕ) (a : Answer) {r : Record} → r ≡ ending true a (length s) → at < length s → end_answer s at ≡ suc n → number a ≡ suc n → Recorded s at r
+  pub last : (n : ℕ) (a : Refusal) → at < length s → end_answer s at ≡ suc n → refusal_number a ≡ suc n → Recorded s at (Last a)
   unfolding check_answer
-  last n a {r} e l h k =
-      rw e (record {
+  last n a l h k =
+      record {
         found_is = rw (lt-ltb at (length s) l) refl;
         ends_is = rw (h, ne_eqb (suc n) 0 (λ q. omega arith)) refl;
         answered = rw (lt-ltb at (length s) l, h, ne_eqb (suc n) 0 (λ q. omega arith)) k;
         head_is = rw (h, ne_eqb (suc n) 0 (λ q. omega arith)) refl;
         next_is = rw (h, ne_eqb (suc n) 0 (λ q. omega arith)) refl;
-      })
+      }
 
   -- a record after which the reading goes on
-  pub more : (a : Answer) (h : Head) (n : ℕ) → at < length s → end_answer s at ≡ 0 → number a ≡ lossless_answer (lossless_at s at) → h ≡ cond (ltb 1 (lossless_at s at)) no_head (head_at s at) → n ≡ next_at s at
-      → Recorded s at (record { found = true; ends = false; answer = a; head = h; next = record { at = n } })
-  unfolding check_answer
-  more a h n l e k p q =
-      record {
-        found_is = rw (lt-ltb at (length s) l) refl;
-        ends_is = rw e refl;
-        answered = rw (lt-ltb at (length s) l, e) k;
-        head_is = rw e p;
-        next_is = rw e q;
-      }
+  module _ (n : ℕ) (l : at < length s) (e : end_answer s at ≡ 0) (q : n ≡ next_at s at) where
+    pub skipped : 1 < lossless_at s at → Recorded s at (Skipped LosslessByte (record { at = n }))
+    unfolding check_answer
+    skipped k =
+        let b : ltb 1 (lossless_at s at) ≡ true = lt-ltb 1 (lossless_at s at) k in
+        record {
+          found_is = rw (lt-ltb at (length s) l) refl;
+          ends_is = rw e refl;
+          answered = rw (lt-ltb at (length s) l, e, b) refl;
+          head_is = rw (e, b) refl;
+          next_is = rw e q;
+        }
+
+    pub whole : {h : Head} → lossless_at s at ≤ 1 → h ≡ head_at s at → Recorded s at (Whole h (record { at = n }))
+    unfolding check_answer
+    whole {h} k p =
+        let b : ltb 1 (lossless_at s at) ≡ false = le-ltb 1 (lossless_at s at) k in
+        record {
+          found_is = rw (lt-ltb at (length s) l) refl;
+          ends_is = rw e refl;
+          answered = rw (lt-ltb at (length s) l, e, b) refl;
+          head_is = rw (e, b) p;
+          next_is = rw e q;
+        }

@@ -1,12 +1,12 @@
 -- The header of a VBK file: "VBK", u16 version, u8 depth, u16 width, u16 height; then width × height samples of u16, row by row.
-use Rattle.std.specs.Prelude.{◌≡◌, Bool, cond, not, ◌&&◌, ◌||◌, List, [], ◌∷◌, ℕ, ◌+◌, ◌*◌, ltb, eqb, length}
+use Rattle.std.specs.Prelude.{◌≡◌, Bool, not, ◌&&◌, ◌||◌, List, [], ◌∷◌, ℕ, ◌+◌, ◌*◌, ltb, eqb, length, Result, Ok, Err, IfOk}
 use Rattle.whole.specs.Lists.{tabulate}
-use Rattle.answers.specs.Answers.{number, lowest}
+use Rattle.answers.specs.Answers.{refusal_number, lowest}
+use Rattle.answers.specs.declared.Refusal.{Refusal}
 use Rattle.answers.specs.Limits.{FILE_LIMIT, AREA_LIMIT}
 use Rattle.answers.specs.Bad.{bad_depth}
 use Rattle.vbk_read.specs.Bytes.{le1, le2}
 use Rattle.vbk_read.specs.declared.Fields.{Fields}
-use Rattle.vbk_read.specs.declared.Header.{Header}
 
 -- bytes of the header before the samples
 abbrev pub HEADER_BYTES : ℕ
@@ -76,11 +76,12 @@ fields_of s =
       next = record { at = HEADER_BYTES };
     }
 
--- zeros, under a refusal
-abbrev pub no_fields : Fields
-no_fields = record { version = 0; depth = 0; width = 0; height = 0; next = record { at = 0 } }
+-- the number of what is read: 0, or that of its refusal
+abbrev pub number_in : {A : Type 0} → Result A Refusal → ℕ
+number_in (Ok _) = 0
+number_in (Err refusal) = refusal_number refusal
 
--- the header read: its answer, and no value but zeros under a refusal
-pub record Headed (s : List ℕ) (h : Header) : Type 0 where
-  pub answered : number h.answer ≡ header_answer s
-  pub fields_are : h.fields ≡ cond (eqb (header_answer s) 0) (fields_of s) no_fields
+-- the header read: what it says, or its refusal
+pub record Headed (s : List ℕ) (h : Result Fields Refusal) : Type 0 where
+  pub answered : number_in h ≡ header_answer s
+  pub fields_are : IfOk h (λ f. f ≡ fields_of s)

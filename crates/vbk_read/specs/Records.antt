@@ -1,13 +1,14 @@
 -- A record of a VBK file: u16 x, u16 y, u8 size, u8 type, u8 lossless, u16 DC, u16 AC, then n0² tokens of i32, row by row.
-use Rattle.std.specs.Prelude.{◌≡◌, Bool, cond, not, ◌||◌, List, [], ◌∷◌, ℕ, ◌+◌, ◌*◌, ltb, eqb, ℤ, length}
+use Rattle.std.specs.Prelude.{◌≡◌, Bool, true, false, cond, not, ◌||◌, List, [], ◌∷◌, ℕ, ◌+◌, ◌*◌, ltb, eqb, ℤ, length}
 use Rattle.std.specs.Borrow.{Bor}
 use Rattle.whole.specs.Lists.{tabulate}
-use Rattle.answers.specs.Answers.{number, lowest}
+use Rattle.answers.specs.Answers.{refusal_number, lowest}
 use Rattle.answers.specs.Bad.{bad_size}
 use Rattle.answers.specs.Sizes.{area}
 use Rattle.vbk_read.specs.Bytes.{le1, le2, le4, signed32}
 use Rattle.vbk_read.specs.declared.Head.{Head}
 use Rattle.vbk_read.specs.declared.Record.{Record}
+use Rattle.vbk_read.specs.declared.Record.TheVariants.{End, Last, Skipped, Whole}
 use Rattle.vbk_read.specs.declared.Reader.{Reader}
 
 -- bytes of a record before its tokens
@@ -85,14 +86,49 @@ head_read s at = cond (ends s at || ltb 1 (lossless_at s at)) no_head (head_at s
 abbrev pub read_on : List ℕ → ℕ → ℕ
 read_on s at = cond (ends s at) (length s) (next_at s at)
 
+-- a record was found
+abbrev pub is_found : Record → Bool
+is_found End = false
+is_found (Last _) = true
+is_found (Skipped _ _) = true
+is_found (Whole _ _) = true
+
+-- the reading ends with it
+abbrev pub is_last : Record → Bool
+is_last End = true
+is_last (Last _) = true
+is_last (Skipped _ _) = false
+is_last (Whole _ _) = false
+
+-- the number of its own checks
+abbrev pub record_number : Record → ℕ
+record_number End = 0
+record_number (Last refusal) = refusal_number refusal
+record_number (Skipped refusal _) = refusal_number refusal
+record_number (Whole _ _) = 0
+
+-- its head, and zeros where it gives no value
+abbrev pub head_in : Record → Head
+head_in End = no_head
+head_in (Last _) = no_head
+head_in (Skipped _ _) = no_head
+head_in (Whole head _) = head
+
+-- the place to read on from, in a file of so many bytes
+abbrev pub next_in : ℕ → Record → ℕ
+next_in end End = end
+next_in end (Last _) = end
+next_in end (Skipped _ next) = next.at
+next_in end (Whole _ next) = next.at
+
 -- what is read at a place: a record, the last record, or, with no byte left, no further record; its answer so far, and no value but zeros
 -- where that is not 0 or the reading ends
 pub record Recorded (s : List ℕ) (at : ℕ) (r : Record) : Type 0 where
-  pub found_is : r.found ≡ found s at
-  pub ends_is : r.ends ≡ ends s at
-  pub answered : number r.answer ≡ check_answer s at
-  pub head_is : r.head ≡ head_read s at
-  pub next_is : r.next.at ≡ read_on s at
+  pub found_is : is_found r ≡ found s at
+  pub ends_is : is_last r ≡ ends s at
+  pub answered : record_number r ≡ check_answer s at
+  pub head_is : head_in r ≡ head_read s at
+  pub next_is : next_in (length s) r ≡ read_on s at
 
 -- a reader holds the file, a place in it, and what is read there
 pub record Opened (file : Bor (List ℕ)) (at : ℕ) (r : Reader) : Type 0 where

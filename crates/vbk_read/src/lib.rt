@@ -5,11 +5,11 @@ ghost use Rattle.std.specs.Prelude.{◌≡◌, ◌+◌, ◌*◌, ◌≤◌, ◌<
 ghost use Rattle.whole.specs.Lists.{fill};
 ghost use Rattle.answers.specs.Answers.{number};
 ghost use Rattle.vbk_read.specs.Bytes.{le1, le2, le4, signed32};
-ghost use Rattle.vbk_read.specs.Header.{sample_at, marked as isMarked, bad_area, header_answer, fields_of, Headed};
-ghost use Rattle.vbk_read.specs.Records.{head_at, no_head, token_at, Recorded, Opened};
-ghost use Rattle.vbk_read.specs.Inner.{Took, ending};
+ghost use Rattle.vbk_read.specs.Header.{sample_at, marked as isMarked, bad_area, fields_of, Headed};
+ghost use Rattle.vbk_read.specs.Records.{head_at, token_at, is_found, record_number, next_in, Recorded, Opened};
+ghost use Rattle.vbk_read.specs.Inner.{Took};
 
-use answers::Answer;
+use answers::{Answer, Refusal};
 
 // Bytes of the header before the samples.
 pub const HEADER_BYTES: usize = 10;
@@ -23,24 +23,10 @@ pub struct Cursor {
     pub at: usize,
 }
 
-// A byte that was read, and the place past it.
+// A value that was read, and the place past it.
 #[derive(Clone, Copy)]
-pub struct GotU8 {
-    pub value: u8,
-    pub next: Cursor,
-}
-
-// A number of two bytes that was read, and the place past it.
-#[derive(Clone, Copy)]
-pub struct GotU16 {
-    pub value: u16,
-    pub next: Cursor,
-}
-
-// A signed number of four bytes that was read, and the place past it.
-#[derive(Clone, Copy)]
-pub struct GotI32 {
-    pub value: i32,
+pub struct Got<T> {
+    pub value: T,
     pub next: Cursor,
 }
 
@@ -52,13 +38,6 @@ pub struct Fields {
     pub width: u16,
     pub height: u16,
     pub next: Cursor,
-}
-
-// The answer of the header's checks, and what it says: zeros under a refusal.
-#[derive(Clone, Copy)]
-pub struct Header {
-    pub answer: Answer,
-    pub fields: Fields,
 }
 
 // A record before its tokens, and the place of these.
@@ -74,76 +53,81 @@ pub struct Head {
     pub next: Cursor,
 }
 
-// What a read finds at a place: whether a record is there, which with no byte left it is not; whether the reading ends; the answer of the
-// record's own checks, its head, and the place to read on from.
+// What a read finds at a place.
 #[derive(Clone, Copy)]
-pub struct Record {
-    pub found: bool,
-    pub ends: bool,
-    pub answer: Answer,
-    pub head: Head,
-    pub next: Cursor,
+pub enum Record {
+    // No byte is left: there is no further record.
+    End,
+    // A record that is cut short or of no size: the reading ends with it.
+    Last(Refusal),
+    // A record whose lossless byte is refused, and the place past it.
+    Skipped(Refusal, Cursor),
+    // A whole record with a good lossless byte, and the place past it.
+    Whole(Head, Cursor),
 }
 
-// Four bytes, the least first.
-fn word(s: &[u8], at: usize) -> u32
-    requires { at + 3 < length s.now }
-    ensures { result ≡ le4 s.now at }
-{
-    let a = words::byte32(s[at]);
-    let b = words::byte32(s[at + 1]);
-    let c = words::byte32(s[at + 2]);
-    let d = words::byte32(s[at + 3]);
-    a + 256 * b + 65536 * c + 16777216 * d
-}
-
-// The number of a two's complement word.
-fn signed(u: u32) -> i32
-    ensures { result ≡ signed32 u }
-{
-    if u < 2147483648 {
-        return u as i32;
+impl Record {
+    // A record is there.
+    pub fn is_found(self) -> bool
+        ensures { result ≡ is_found self }
+    {
+        !matches!(self, Record::End)
     }
-    let v = (u as i64) - 4294967296;
-    v as i32
+
+    // The answer of the record's own checks.
+    pub fn answer(self) -> Answer
+        ensures { number result ≡ record_number self }
+    {
+        match self {
+            Record::Last(refusal) | Record::Skipped(refusal, _) => Err(refusal),
+            Record::End | Record::Whole(_, _) => Ok(()),
+        }
+    }
+
+    // The place to read on from, in a file of `end` bytes.
+    pub fn next(self, end: usize) -> usize
+        ensures { result ≡ next_in end self }
+    {
+        match self {
+            Record::Skipped(_, next) | Record::Whole(_, next) => next.at,
+            Record::End | Record::Last(_) => end,
+        }
+    }
 }
 
 impl Cursor {
     // One byte.
-    pub fn read_u8(self, s: &[u8]) -> GotU8
+    pub fn read_u8(self, s: &[u8]) -> Got<u8>
         requires { self.at < length s.now }
         ensures { Took (le1 s.now self.at) (self.at + 1) result.value result.next.at }
     {
         let at = self.at;
-        GotU8 {
+        Got {
             value: s[at],
             next: Cursor { at: at + 1 },
         }
     }
 
     // Two bytes, the least first.
-    pub fn read_u16(self, s: &[u8]) -> GotU16
+    pub fn read_u16(self, s: &[u8]) -> Got<u16>
         requires { self.at + 1 < length s.now }
         ensures { Took (le2 s.now self.at) (self.at + 2) result.value result.next.at }
     {
         let at = self.at;
-        let a = words::byte16(s[at]);
-        let b = words::byte16(s[at + 1]);
-        GotU16 {
-            value: a + 256 * b,
+        Got {
+            value: u16::from_le_bytes([s[at], s[at + 1]]),
             next: Cursor { at: at + 2 },
         }
     }
 
     // Four bytes, the least first, in two's complement.
-    pub fn read_i32(self, s: &[u8]) -> GotI32
+    pub fn read_i32(self, s: &[u8]) -> Got<i32>
         requires { self.at + 3 < length s.now }
         ensures { Took (signed32 (le4 s.now self.at)) (self.at + 4) result.value result.next.at }
     {
         let at = self.at;
-        let v = signed(word(s, at));
-        GotI32 {
-            value: v,
+        Got {
+            value: i32::from_le_bytes([s[at], s[at + 1], s[at + 2], s[at + 3]]),
             next: Cursor { at: at + 4 },
         }
     }
@@ -154,12 +138,10 @@ impl Cursor {
         ensures { (result.at ≡ self.at + 2 * count) × (samples.new ≡ fill count (sample_at s.now self.at) samples.old) }
     {
         let mut c = self;
-        let mut k = 0;
-        while k < count {
+        for k in 0..count {
             let got = c.read_u16(s);
             samples[k] = got.value;
             c = got.next;
-            k += 1;
         }
         c
     }
@@ -170,12 +152,10 @@ impl Cursor {
         ensures { (result.at ≡ self.at + 4 * count) × (tokens.new ≡ fill count (token_at s.now self.at) tokens.old) }
     {
         let mut c = self;
-        let mut k = 0;
-        while k < count {
+        for k in 0..count {
             let got = c.read_i32(s);
-            tokens[k] = words::long(got.value);
+            tokens[k] = i64::from(got.value);
             c = got.next;
-            k += 1;
         }
         c
     }
@@ -211,13 +191,7 @@ fn marked(s: &[u8]) -> bool
     requires { 3 ≤ length s.now }
     ensures { result ≡ isMarked s.now }
 {
-    if s[0] != b'V' {
-        return false;
-    }
-    if s[1] != b'B' {
-        return false;
-    }
-    s[2] == b'K'
+    s.starts_with(b"VBK")
 }
 
 // What the header says after its mark.
@@ -244,137 +218,72 @@ fn read_fields(s: &[u8]) -> Fields
 pub fn plane_area(width: u16, height: u16) -> usize
     ensures { result ≡ width * height }
 {
-    (width as usize) * (height as usize)
+    usize::from(width) * usize::from(height)
 }
 
 // Width × height is not 1 to 4,096.
 pub fn bad_area(area: usize) -> bool
     ensures { result ≡ bad_area area }
 {
-    if area == 0 {
-        return true;
-    }
-    answers::AREA_LIMIT < area
+    area == 0 || answers::AREA_LIMIT < area
 }
 
-// The header's checks, in the file's own order.
-fn header_answer(s: &[u8]) -> Answer
-    ensures { number result ≡ header_answer s.now }
+// The header, checked in the file's own order: what it says, or its refusal.
+pub fn read_header(s: &[u8]) -> Result<Fields, Refusal>
+    ensures { Headed s.now result }
 {
     if answers::FILE_LIMIT < s.len() {
-        return Answer::TooLarge;
+        return Err(Refusal::TooLarge);
     }
     if s.len() < HEADER_BYTES {
-        return Answer::CutShort;
+        return Err(Refusal::CutShort);
     }
     if !marked(s) {
-        return Answer::Mark;
+        return Err(Refusal::Mark);
     }
     let f = read_fields(s);
     if f.version != 1 {
-        return Answer::Version;
+        return Err(Refusal::Version);
     }
-    if answers::bad_depth(words::byte32(f.depth)) {
-        return Answer::Depth;
+    if answers::bad_depth(u32::from(f.depth)) {
+        return Err(Refusal::Depth);
     }
     let n = plane_area(f.width, f.height);
     if bad_area(n) {
-        return Answer::TooLarge;
+        return Err(Refusal::TooLarge);
     }
     if s.len() < HEADER_BYTES + 2 * n {
-        return Answer::CutShort;
+        return Err(Refusal::CutShort);
     }
-    Answer::Done
+    Ok(f)
 }
 
-// The header, checked: what it says, or its answer and zeros.
-pub fn read_header(s: &[u8]) -> Header
-    ensures { Headed s.now result }
-{
-    let answer = header_answer(s);
-    if answers::code(answer) != 0 {
-        return Header {
-            answer,
-            fields: Fields {
-                version: 0,
-                depth: 0,
-                width: 0,
-                height: 0,
-                next: Cursor { at: 0 },
-            },
-        };
-    }
-    let fields = read_fields(s);
-    Header { answer, fields }
-}
-
-// The head of no record.
-fn no_head() -> Head
-    ensures { result ≡ no_head }
-{
-    Head {
-        x: 0,
-        y: 0,
-        size: 0,
-        tx_type: 0,
-        lossless: 0,
-        dc: 0,
-        ac: 0,
-        next: Cursor { at: 0 },
-    }
-}
-
-// Where the reading ends there is no value but an answer, and what is read on from is the end of the file.
-fn ending(found: bool, answer: Answer, end: usize) -> Record
-    ensures { result ≡ ending found answer end }
-{
-    Record {
-        found,
-        ends: true,
-        answer,
-        head: no_head(),
-        next: Cursor { at: end },
-    }
-}
-
-// The record at a place: its checks in the file's own order, its head and the place to read on from.
+// The record at a place, checked in the file's own order.
 pub fn record_at(s: &[u8], at: usize) -> Record
     ensures { Recorded s.now at result }
 {
     let end = s.len();
     if end <= at {
-        return ending(false, Answer::Done, end);
+        return Record::End;
     }
     if end - at < HEAD_BYTES {
-        return ending(true, Answer::CutShort, end);
+        return Record::Last(Refusal::CutShort);
     }
     let c = Cursor { at };
     let head = c.read_head(s);
     if 3 < head.size {
-        return ending(true, Answer::Size, end);
+        return Record::Last(Refusal::Size);
     }
-    let n = 4 * answers::area(head.size as u32 + 2);
+    let n = 4 * answers::area(u32::from(head.size) + 2);
     let from = at + HEAD_BYTES;
     if end - from < n {
-        return ending(true, Answer::CutShort, end);
+        return Record::Last(Refusal::CutShort);
     }
     let next = Cursor { at: from + n };
     if 1 < head.lossless {
-        return Record {
-            found: true,
-            ends: false,
-            answer: Answer::LosslessByte,
-            head: no_head(),
-            next,
-        };
+        return Record::Skipped(Refusal::LosslessByte, next);
     }
-    Record {
-        found: true,
-        ends: false,
-        answer: Answer::Done,
-        head,
-        next,
-    }
+    Record::Whole(head, next)
 }
 
 // The lent file, a place in it, and the record there, kept together.
@@ -396,8 +305,9 @@ pub fn open<'a>(file: &'a [u8], at: usize) -> Reader<'a>
 impl<'a> Reader<'a> {
     // The reader moved on, past its record.
     pub fn next(self) -> Reader<'a>
-        ensures { Opened self.entry.file self.entry.record.next.at result }
+        ensures { Opened self.entry.file (next_in (length self.entry.file.now) self.entry.record) result }
     {
-        open(self.file, self.record.next.at)
+        let end = self.file.len();
+        open(self.file, self.record.next(end))
     }
 }

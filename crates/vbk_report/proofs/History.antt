@@ -1,4 +1,6 @@
 -- THE REPORT IS THAT OF THE RUN'S HISTORY: its records that reach reconstruction, in order, each with its answer.
+use Rattle.std.specs.Prelude.{Result}
+use Rattle.answers.specs.declared.Refusal.{Refusal}
 use mathlib.Core.Path.{◌≡◌, refl, ap, subst, ◌∙◌}
 use mathlib.Core.Bool.{Bool, true, false, cond, not, ◌||◌}
 use mathlib.Core.List.{List, [], ◌∷◌, ◌++◌}
@@ -133,7 +135,7 @@ unfolding report_run
 run_history s counts sums = rw (counts_in_lem (samples_of s) counts sums, sums_in_lem (samples_of s) counts sums) at (told s (length s) (first_record s) (beside (samples_of s) counts sums))
 
 -- of whatever keeps the promise, where the run is not refused
-module _ (s samples answers counts sums : List ℕ) (r : Run) (samples' answers' counts' sums' : List ℕ) (p : ReplayedReport s samples answers counts sums r samples' answers' counts' sums') (z : run_answer s samples answers ≡ 0) where
+module _ (s samples answers counts sums : List ℕ) (r : Result Run Refusal) (samples' answers' counts' sums' : List ℕ) (p : ReplayedReport s samples answers counts sums r samples' answers' counts' sums') (z : run_answer s samples answers ≡ 0) where
   pub replayed_history : History counts sums (calls_of s counts sums) counts' sums'
   replayed_history =
       let c : counts' ≡ counts_in (report_run s counts sums).samples = p.counts_are ∙ rw z in
@@ -141,13 +143,13 @@ module _ (s samples answers counts sums : List ℕ) (r : Run) (samples' answers'
       rw (c, m) (run_history s counts sums)
 
 -- from any report every count and sum grows by the recount's over the run's blocks
-pub replayed_added : (s samples answers counts sums : List ℕ) (r : Run) (samples' answers' counts' sums' : List ℕ) → length counts ≡ ENTRIES → length sums ≡ ENTRIES
+pub replayed_added : (s samples answers counts sums : List ℕ) (r : Result Run Refusal) (samples' answers' counts' sums' : List ℕ) → length counts ≡ ENTRIES → length sums ≡ ENTRIES
     → ReplayedReport s samples answers counts sums r samples' answers' counts' sums' → run_answer s samples answers ≡ 0 → Added (calls_of s counts sums) counts sums counts' sums'
 replayed_added s samples answers counts sums r samples' answers' counts' sums' m n p z =
     history_from counts sums (calls_of s counts sums) counts' sums' m n (replayed_history s samples answers counts sums r samples' answers' counts' sums' p z)
 
 -- from an empty report every count and sum is the recount's over the run's blocks
-pub replayed_recount : (s samples answers : List ℕ) (r : Run) (samples' answers' counts' sums' : List ℕ) → ReplayedReport s samples answers empty empty r samples' answers' counts' sums' → run_answer s samples answers ≡ 0
+pub replayed_recount : (s samples answers : List ℕ) (r : Result Run Refusal) (samples' answers' counts' sums' : List ℕ) → ReplayedReport s samples answers empty empty r samples' answers' counts' sums' → run_answer s samples answers ≡ 0
     → Recounted (calls_of s empty empty) counts' sums'
 replayed_recount s samples answers r samples' answers' counts' sums' p z =
     history_law (calls_of s empty empty) counts' sums' (replayed_history s samples answers empty empty r samples' answers' counts' sums' p z)

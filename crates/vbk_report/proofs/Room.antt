@@ -1,11 +1,13 @@
 -- A GOOD REPORT WITH ROOM FOR 16,384 TOKENS, more than any file has: no record of a run is answered 15, so the run with the report is the run without.
+use Rattle.std.specs.Prelude.{Result, Ok, Err, IfOk}
+use Rattle.answers.specs.declared.Refusal.{Refusal}
 use mathlib.Core.Path.{◌≡◌, refl, sym, ap, ◌∙◌}
 use mathlib.Core.Bool.{Bool, true, false, cond, not, ◌||◌}
 use mathlib.Core.List.{List, ◌∷◌}
 use Prim.Native.Nat.{ℕ, zero, suc, ◌+◌, ◌*◌, ◌≤◌, ◌<◌}
 use native.Mathlib.Decide.{dec_lt, ℕ_discrete}
 use native.Mathlib.Omega.{arith}
-use borrow.Author.Tests.{le-ltb, ltb-false, ne_eqb}
+use borrow.Author.Tests.{both_ways, le-ltb, ltb-false, ne_eqb}
 use lib.Dec.{ltb, eqb}
 use lib.ListN.{length}
 use Rattle.whole.proofs.Lists.{length_tabulate}
@@ -17,11 +19,11 @@ use Rattle.report.specs.Classes.{one, itself}
 use Rattle.report.specs.Report.{ENTRIES, TOTAL_LIMIT, total, bad_total, bad_sums, report_answer, samples_after, list_after}
 use Rattle.report.proofs.Table.{passes}
 use Rattle.report.proofs.Good.{total_grows, stays_good}
-use Rattle.vbk_read.specs.Header.{samples_of, first_record, header_answer}
+use Rattle.vbk_read.specs.Header.{samples_of, first_record, header_answer, number_in}
 use Rattle.vbk_read.specs.Records.{size_at, lossless_at, token_at, tokens_at, next_at, end_answer, ends, read_on}
 use Rattle.vbk_read.proofs.Headers.{good}
 use Rattle.vbk.specs.Replay.{record_at, records}
-use Rattle.vbk.specs.Promises.{roomy, run_answer, Replayed}
+use Rattle.vbk.specs.Promises.{run_of, roomy, run_answer, Tells, Replayed}
 use Rattle.vbk.specs.declared.Run.{Run}
 use Rattle.vbk.proofs.Records.{records_none, records_more, there}
 use Rattle.vbk_report.specs.Lists.{counts_in, sums_in, beside}
@@ -156,19 +158,19 @@ header_good s samples answers h = go (roomy samples answers) refl
     go false e = absurd (let z : 6 ≡ 0 = rw e at h in omega arith)
 
 -- a refusal is the same with a report and without
-refused_keeps : (s samples answers counts sums : List ℕ) (r : Run) (samples' answers' counts' sums' : List ℕ) → eqb (run_answer s samples answers) 0 ≡ false
+refused_keeps : (s samples answers counts sums : List ℕ) (r : Result Run Refusal) (samples' answers' counts' sums' : List ℕ) → eqb (run_answer s samples answers) 0 ≡ false
     → ReplayedReport s samples answers counts sums r samples' answers' counts' sums' → Replayed s samples answers r samples' answers'
 refused_keeps s samples answers counts sums r samples' answers' counts' sums' e p =
     record {
       answered = p.answered;
-      fields_are = p.fields_are;
-      count_is = p.count_is ∙ rw e;
-      touched_is = p.touched_is ∙ rw e;
+      told = told r p.answered;
       samples_are = p.samples_are ∙ rw e;
       answers_are = p.answers_are ∙ rw e;
-      count_most = p.count_most;
-      touched_most = p.touched_most;
     }
+  where
+    told : (r : Result Run Refusal) → number_in r ≡ run_answer s samples answers → IfOk r (Tells s (run_of s))
+    told (Err b) q = tt
+    told (Ok x) q = absurd (both_ways _ e (ap (λ (n : ℕ). eqb n 0) (sym q)))
 
 -- what a report must be for a run: its lists have all entries, and it would take a block of 16,384 tokens
 module _ (s counts sums : List ℕ) (m : length counts ≡ ENTRIES) (n : length sums ≡ ENTRIES) (g : report_answer 16384 counts sums ≡ 0) where
@@ -191,7 +193,7 @@ module _ (s counts sums : List ℕ) (m : length counts ≡ ENTRIES) (n : length 
   never_15 h = none_15 s (length s) (first_record s) (beside (samples_of s) counts sums) (roomy_first h)
 
   -- SO THE RUN KEEPS `replay`'S PROMISE
-  pub room_keeps_replay : (samples answers : List ℕ) (r : Run) (samples' answers' counts' sums' : List ℕ) → ReplayedReport s samples answers counts sums r samples' answers' counts' sums'
+  pub room_keeps_replay : (samples answers : List ℕ) (r : Result Run Refusal) (samples' answers' counts' sums' : List ℕ) → ReplayedReport s samples answers counts sums r samples' answers' counts' sums'
       → Replayed s samples answers r samples' answers'
   room_keeps_replay samples answers r samples' answers' counts' sums' p = go (ℕ_discrete (run_answer s samples answers) 0)
     where

@@ -1,4 +1,6 @@
 -- WHERE NO ANSWER IS 15, the run with a report has the answers, the samples and the touched count of the run without: it keeps `replay`'s promise.
+use Rattle.std.specs.Prelude.{Result, Ok, Err, IfOk}
+use Rattle.answers.specs.declared.Refusal.{Refusal}
 use mathlib.Core.Path.{◌≡◌, refl, sym, ap, subst, ◌∙◌}
 use mathlib.Core.Bool.{Bool, true, false, cond, ◌||◌}
 use mathlib.Core.List.{List, ◌++◌}
@@ -15,7 +17,7 @@ use Rattle.vbk_read.specs.Header.{plane_area, samples_of, first_record}
 use Rattle.vbk_read.specs.Records.{lossless_at, head_at, end_answer, ends, read_on}
 use Rattle.vbk.specs.Replay.{After, Rebuilt, and_then, touched_by, plane_of, rebuild_at, rebuilt_at, record_at, records, records_of}
 use Rattle.vbk.specs.Filled.{reconstruction}
-use Rattle.vbk.specs.Promises.{run_of, run_answer, Replayed}
+use Rattle.vbk.specs.Promises.{run_of, run_answer, Tells, Replayed}
 use Rattle.vbk.specs.declared.Run.{Run}
 use Rattle.vbk.proofs.Records.{records_none, records_more}
 use Rattle.vbk_report.specs.Lists.{samples_in, beside}
@@ -107,18 +109,20 @@ pub same_run : (s counts sums : List ℕ) → Without15 (report_run s counts sum
 unfolding report_run records_of
 same_run s counts sums h = rw (samples_in_lem (samples_of s) counts sums) at (same_from s (length s) (first_record s) (beside (samples_of s) counts sums) h)
 
-pub keeps_replay : (s samples answers counts sums : List ℕ) (r : Run) (samples' answers' counts' sums' : List ℕ) → Without15 (report_run s counts sums).answers
+pub keeps_replay : (s samples answers counts sums : List ℕ) (r : Result Run Refusal) (samples' answers' counts' sums' : List ℕ) → Without15 (report_run s counts sums).answers
     → ReplayedReport s samples answers counts sums r samples' answers' counts' sums' → Replayed s samples answers r samples' answers'
 keeps_replay s samples answers counts sums r samples' answers' counts' sums' w p =
     let e = same_run s counts sums w in
     let done = eqb (run_answer s samples answers) 0 in
     record {
       answered = p.answered;
-      fields_are = p.fields_are;
-      count_is = p.count_is ∙ ap (λ (a : List ℕ). cond done (length a) 0) e.answers_are;
-      touched_is = p.touched_is ∙ ap (λ (t : ℕ). cond done t 0) e.touched_is;
+      told = told r p.told;
       samples_are = p.samples_are ∙ ap (λ (a : List ℕ). cond done (a ++ drop (plane_area s) samples) samples) e.samples_are;
       answers_are = p.answers_are ∙ ap (λ (a : List ℕ). cond done (a ++ drop (length a) answers) answers) e.answers_are;
-      count_most = p.count_most;
-      touched_most = p.touched_most;
     }
+  where
+    told : (r : Result Run Refusal) → IfOk r (Tells s (report_run s counts sums)) → IfOk r (Tells s (run_of s))
+    told (Err b) t = tt
+    told (Ok x) t =
+        let e = same_run s counts sums w in
+        record { fields_are = t.fields_are; count_is = t.count_is ∙ ap length e.answers_are; touched_is = t.touched_is ∙ e.touched_is; count_most = t.count_most; touched_most = t.touched_most }

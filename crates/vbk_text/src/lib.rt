@@ -1,4 +1,5 @@
-// What blockrun prints, written into a lent buffer. Each function takes the place to write at and hands back the place past its text.
+// What blockrun prints, written into a lent buffer. Each function takes the place to write at and hands back the place past its text: a writer
+// that held buffer and place together would hold a `&mut`, and each of its methods would have to say besides which buffer it still holds.
 #![tactic(auto)]
 
 ghost use Rattle.std.specs.Prelude.{◌≡◌, [], ◌∷◌, ◌+◌, ◌*◌, ◌≤◌, ◌<◌, length};
@@ -80,7 +81,7 @@ fn put_answer(out: &mut [u8], at: usize, answers: &[u8], index: usize) -> usize
 {
     let a = put_byte(out, at, b'B');
     let b = put_word(out, a, index as u64);
-    let c = put_word(out, b, words::byte64(answers[index]));
+    let c = put_word(out, b, u64::from(answers[index]));
     put_byte(out, c, b'\n')
 }
 
@@ -90,10 +91,8 @@ fn put_answers(out: &mut [u8], at: usize, answers: &[u8]) -> usize
     ensures { Put out.old at (each (length answers.now) (answer_line answers.now)) result out.new }
 {
     let mut place = at;
-    let mut i = 0;
-    while i < answers.len() {
+    for i in 0..answers.len() {
         place = put_answer(out, place, answers, i);
-        i += 1;
     }
     place
 }
@@ -104,11 +103,8 @@ fn put_samples(out: &mut [u8], at: usize, samples: &[u16], from: usize, count: u
     ensures { Put out.old at (samples_from samples.now from count) result out.new }
 {
     let mut place = at;
-    let mut c = 0;
-    while c < count {
-        let k = from + c;
-        place = put_word(out, place, words::wide16(samples[k]));
-        c += 1;
+    for c in 0..count {
+        place = put_word(out, place, u64::from(samples[from + c]));
     }
     place
 }
@@ -129,10 +125,8 @@ fn put_rows(out: &mut [u8], at: usize, samples: &[u16], width: usize, height: us
     ensures { Put out.old at (each height (row_line samples.now width)) result out.new }
 {
     let mut place = at;
-    let mut r = 0;
-    while r < height {
+    for r in 0..height {
         place = put_row(out, place, samples, width, r);
-        r += 1;
     }
     place
 }

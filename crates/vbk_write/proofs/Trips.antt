@@ -15,7 +15,6 @@ use Rattle.whole.specs.Lists.{tabulate}
 use Rattle.whole.specs.Tests.{any_below}
 use Rattle.whole.proofs.Lists.{length_tabulate, get_d_tabulate}
 use Rattle.whole.proofs.Tests.{any_at, any_none, any_more}
-use Rattle.answers.specs.Answers.{number}
 use Rattle.answers.specs.Bad.{bad_depth, retired}
 use Rattle.answers.specs.Sizes.{area}
 use Rattle.vbk_read.specs.Bytes.{le4, signed32}
@@ -25,7 +24,7 @@ use Rattle.vbk_read.proofs.Headers.{good}
 use Rattle.vbk_write.specs.Clip.{Entry, Clip, entry_at, entries_from, says, whole_from, whole, bytes_of}
 use Rattle.vbk_write.specs.Lent.{Lent, Alike, tokens_before, tokens_from, entry_of, clip_of, file_of}
 use Rattle.vbk_write.specs.Promises.{any_above, bad_lists, bad_counts, bad_total, misfit, too_large, answer_of, Wrote}
-use Rattle.vbk_write.specs.declared.Written.{Written}
+use Rattle.std.specs.Prelude.{Ok}
 use Rattle.vbk_write.specs.Trips.{Tokens32, Bytes, Sound, AllSound, none, more, Good, ReadBack}
 use Rattle.vbk_write.proofs.Counts.{none_above}
 use Rattle.vbk_write.proofs.Lengths.{fit, file_length_lem}
@@ -83,12 +82,12 @@ unfolding file_of
 read_back l room by h = clip_read_back (clip_of l) (good_clip l room by (taken l room h))
 
 -- and so of the call: the bytes that it leaves at the buffer's front, as many as it says
-pub call_read_back : (l : Lent) (out : List ℕ) (r : Written) (after : List ℕ) → Tokens32 l.tokens → Wrote l out r after → number r.answer ≡ 0 → ReadBack (clip_of l) (take r.length after)
-call_read_back l out r after by w h =
-    let z : answer_of l (length out) ≡ 0 = sym w.answered ∙ h in
-    let n : r.length ≡ length (file_of l) = w.length_is ∙ rw z in
+pub call_read_back : (l : Lent) (out : List ℕ) (n : ℕ) (after : List ℕ) → Tokens32 l.tokens → Wrote l out (Ok n) after → ReadBack (clip_of l) (take n after)
+call_read_back l out n after by w =
+    let z : answer_of l (length out) ≡ 0 = sym w.answered in
+    let e : n ≡ length (file_of l) = w.length_is in
     let o : after ≡ file_of l ++ drop (length (file_of l)) out = w.out_is ∙ rw z in
-    rw (n, o, take-append_seam (file_of l) (drop (length (file_of l)) out)) (read_back l (length out) by z)
+    rw (e, o, take-append_seam (file_of l) (drop (length (file_of l)) out)) (read_back l (length out) by z)
 
 -- ---- a whole file is taken
 all_below_lem : (p : ℕ → Bool) (n : ℕ) → ((k : ℕ) → k < n → p k ≡ false) → any_below p n ≡ false

@@ -6,10 +6,12 @@ use native.Mathlib.Omega.{arith}
 use borrow.Author.Tests.{ne_eqb, eq-eqb}
 use lib.ListN.{length}
 use Rattle.whole.specs.Steps.{each}
-use Rattle.answers.specs.Answers.{number}
+use Rattle.std.specs.Prelude.{Ok, Err}
+use Rattle.answers.specs.Answers.{refusal_number}
+use Rattle.answers.specs.declared.Refusal.{Refusal}
+use Rattle.answers.proofs.Numbers.{refused_number}
 use Rattle.vbk_text.specs.Inner.{Room, Put}
 use Rattle.vbk_text.proofs.Writing.{put_front, put_count}
-use Rattle.vbk_write.specs.declared.Written.{Written}
 use Rattle.vbk_write.specs.Bytes.{two, joined}
 use Rattle.vbk_write.specs.Clip.{header_bytes, entry_bytes, bytes_of}
 use Rattle.vbk_write.specs.Lent.{Lent, entry_of, clip_of, file_of}
@@ -30,13 +32,12 @@ module _ (l : Lent) (out : List ℕ) where
   pub room : answer_of l (length out) ≡ 0 → Room out 0 (file_of l)
   room h = omega (arith, (taken l (length out) h).there)
 
-  module _ {r : Written} (a : number r.answer ≡ answer_of l (length out)) where
-    pub refused : (number r.answer ≡ 0 → ⊥) → r.length ≡ 0 → Wrote l out r out
-    refused z e =
-        let n = ne_eqb (answer_of l (length out)) 0 (λ q. z (a ∙ q)) in
-        record { answered = a; length_is = rw n e; out_is = rw n }
+  pub refused : {a : Refusal} → refusal_number a ≡ answer_of l (length out) → Wrote l out (Err a) out
+  refused {a} e =
+      let n = ne_eqb (answer_of l (length out)) 0 (λ q. refused_number a (e ∙ q)) in
+      record { answered = e; length_is = tt; out_is = rw n }
 
-    pub done : {after : List ℕ} → answer_of l (length out) ≡ 0 → Put out 0 (file_of l) r.length after → Wrote l out r after
-    done h p =
-        let n = eq-eqb (answer_of l (length out)) 0 h in
-        record { answered = a; length_is = rw n (put_count p); out_is = rw n (put_front (room h) p) }
+  pub done : {n : ℕ} {after : List ℕ} → answer_of l (length out) ≡ 0 → Put out 0 (file_of l) n after → Wrote l out (Ok n) after
+  done h p =
+      let n = eq-eqb (answer_of l (length out)) 0 h in
+      record { answered = sym h; length_is = put_count p; out_is = rw n (put_front (room h) p) }

@@ -1,13 +1,13 @@
 -- What `vbk_write` promises: its answer, the file's length, and the buffer afterwards.
-use Rattle.std.specs.Prelude.{◌≡◌, Bool, false, cond, not, ◌||◌, List, [], ◌∷◌, ◌++◌, ℕ, ◌+◌, ◌*◌, ltb, eqb, length, get_or, drop}
+use Rattle.std.specs.Prelude.{◌≡◌, Bool, false, cond, not, ◌||◌, List, [], ◌∷◌, ◌++◌, ℕ, ◌+◌, ◌*◌, ltb, eqb, length, get_or, drop, Result, IfOk}
 use Rattle.whole.specs.Tests.{any_below}
-use Rattle.answers.specs.Answers.{number, lowest}
+use Rattle.answers.specs.Answers.{lowest}
+use Rattle.answers.specs.declared.Refusal.{Refusal}
 use Rattle.answers.specs.Limits.{FILE_LIMIT}
 use Rattle.answers.specs.Bad.{bad_depth, retired}
 use Rattle.answers.specs.Sizes.{area}
-use Rattle.vbk_read.specs.Header.{bad_area}
+use Rattle.vbk_read.specs.Header.{bad_area, number_in}
 use Rattle.vbk_write.specs.Lent.{Lent, tokens_before, file_of}
-use Rattle.vbk_write.specs.declared.Written.{Written}
 
 -- 2 and 14: some number of the list is above `most`
 unfoldable pub any_above : ℕ → List ℕ → Bool
@@ -63,7 +63,7 @@ answer_of l room =
     ∷ [])
 
 -- the promise: done, the file stands at the buffer's front and what is past it stays; refused, there is no file and nothing changes
-pub record Wrote (l : Lent) (out : List ℕ) (r : Written) (after : List ℕ) : Type 0 where
-  pub answered : number r.answer ≡ answer_of l (length out)
-  pub length_is : r.length ≡ cond (eqb (answer_of l (length out)) 0) (length (file_of l)) 0
+pub record Wrote (l : Lent) (out : List ℕ) (r : Result ℕ Refusal) (after : List ℕ) : Type 0 where
+  pub answered : number_in r ≡ answer_of l (length out)
+  pub length_is : IfOk r (λ n. n ≡ length (file_of l))
   pub out_is : after ≡ cond (eqb (answer_of l (length out)) 0) (file_of l ++ drop (length (file_of l)) out) out

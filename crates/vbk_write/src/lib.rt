@@ -7,22 +7,33 @@ ghost use Rattle.answers.specs.Answers.{number};
 ghost use Rattle.answers.specs.Limits.{FILE_LIMIT};
 ghost use Rattle.vbk_read.specs.Header.{bad_area};
 ghost use Rattle.vbk_text.specs.Inner.{Room, Put};
-ghost use Rattle.vbk_write.specs.Bytes.{one, two, word32, four, joined};
+ghost use Rattle.vbk_write.specs.Bytes.{one, two, four, joined};
 ghost use Rattle.vbk_write.specs.Clip.{head_bytes, header_bytes, entry_bytes};
 ghost use Rattle.vbk_write.specs.Lent.{Lent, Alike, tokens_from, tokens_before, entry_of};
-ghost use Rattle.vbk_write.specs.Promises.{any_above, any_other, bad_counts, bad_total, answer_of, Wrote};
-ghost use Rattle.vbk_write.specs.Inner.{file_length};
+ghost use Rattle.vbk_write.specs.Promises.{any_above, bad_lists, bad_counts, bad_total, answer_of, Wrote};
+ghost use Rattle.vbk_write.specs.Inner.{file_length, told};
 
-use answers::Answer;
+use answers::{Answer, Refusal};
 
-// The answer, and how long the file is: 0 under a refusal.
+// What is lent: the header's numbers, the samples, a list for each of a record's numbers, and all tokens.
 #[derive(Clone, Copy)]
-pub struct Written {
-    pub answer: Answer,
-    pub length: usize,
+struct Lists<'a> {
+    depth: u8,
+    width: u16,
+    height: u16,
+    samples: &'a [u16],
+    xs: &'a [u16],
+    ys: &'a [u16],
+    sizes: &'a [u8],
+    tx_types: &'a [u8],
+    lossless: &'a [u8],
+    dcs: &'a [u16],
+    acs: &'a [u16],
+    counts: &'a [u32],
+    tokens: &'a [i32],
 }
 
-// A number of four bytes as a count.
+// A number of four bytes as a count: `usize` has no `From` for it.
 fn count32(x: u32) -> usize
     ensures { result ≡ x }
 {
@@ -33,48 +44,24 @@ fn count32(x: u32) -> usize
 fn any_above(list: &[u8], most: u8) -> bool
     ensures { result ≡ any_above most list.now }
 {
-    let mut i = 0;
-    while i < list.len() {
-        if most < list[i] {
-            return true;
-        }
-        i += 1;
-    }
-    false
+    list.iter().any(|n| most < *n)
 }
 
-// Some list has another length than n.
-fn any_other(
-    n: usize,
-    ys: usize,
-    sizes: usize,
-    tx_types: usize,
-    lossless: usize,
-    dcs: usize,
-    acs: usize,
-    counts: usize,
-) -> bool
-    ensures { result ≡ any_other n (ys ∷ sizes ∷ tx_types ∷ lossless ∷ dcs ∷ acs ∷ counts ∷ []) }
+// Some list of the records' numbers has another length than the first.
+fn bad_lists(l: Lists) -> bool
+    ensures { result ≡ bad_lists (told l.entry) }
 {
-    if ys != n {
-        return true;
-    }
-    if sizes != n {
-        return true;
-    }
-    if tx_types != n {
-        return true;
-    }
-    if lossless != n {
-        return true;
-    }
-    if dcs != n {
-        return true;
-    }
-    if acs != n {
-        return true;
-    }
-    counts != n
+    let n = l.xs.len();
+    let lengths = [
+        l.ys.len(),
+        l.sizes.len(),
+        l.tx_types.len(),
+        l.lossless.len(),
+        l.dcs.len(),
+        l.acs.len(),
+        l.counts.len(),
+    ];
+    lengths.iter().any(|m| *m != n)
 }
 
 // Some record does not bring its n0² tokens, or the counts do not add up to the tokens.
@@ -83,9 +70,8 @@ fn bad_counts(sizes: &[u8], counts: &[u32], tokens: usize) -> bool
     ensures { result ≡ (bad_counts sizes.now counts.now || bad_total counts.now tokens) }
 {
     let mut total = 0;
-    let mut i = 0;
-    while i < counts.len() {
-        let size = words::byte32(sizes[i]);
+    for i in 0..counts.len() {
+        let size = u32::from(sizes[i]);
         let count = count32(counts[i]);
         if count != answers::area(size + 2) {
             return true;
@@ -94,7 +80,6 @@ fn bad_counts(sizes: &[u8], counts: &[u32], tokens: usize) -> bool
             return true;
         }
         total += count;
-        i += 1;
     }
     total != tokens
 }
@@ -124,78 +109,55 @@ fn too_large(samples: usize, records: usize, tokens: usize) -> bool
 }
 
 // All checks, the lowest number first.
-fn check(
-    depth: u8,
-    width: u16,
-    height: u16,
-    samples: &[u16],
-    xs: &[u16],
-    ys: &[u16],
-    sizes: &[u8],
-    tx_types: &[u8],
-    lossless: &[u8],
-    dcs: &[u16],
-    acs: &[u16],
-    counts: &[u32],
-    tokens: &[i32],
-    room: usize,
-) -> Answer
-    ensures { number result ≡ answer_of (record { depth = depth; width = width; height = height; samples = samples.now; xs = xs.now; ys = ys.now; sizes = sizes.now; tx_types = tx_types.now; lossless = lossless.now; dcs = dcs.now; acs = acs.now; counts = counts.now; tokens = tokens.now }) room }
+fn check(l: Lists, room: usize) -> Answer
+    ensures { number result ≡ answer_of (told l.entry) room }
 {
-    let bits = words::byte32(depth);
+    let bits = u32::from(l.depth);
     if answers::bad_depth(bits) {
-        return Answer::Depth;
+        return Err(Refusal::Depth);
     }
     if answers::retired(bits) {
-        return Answer::Retired;
+        return Err(Refusal::Retired);
     }
-    if any_above(sizes, 3) {
-        return Answer::Size;
+    if any_above(l.sizes, 3) {
+        return Err(Refusal::Size);
     }
-    let area = vbk_read::plane_area(width, height);
-    if samples.len() != area {
-        return Answer::Length;
+    let area = vbk_read::plane_area(l.width, l.height);
+    let samples = l.samples.len();
+    if samples != area {
+        return Err(Refusal::Length);
     }
-    let n = xs.len();
-    if any_other(
-        n,
-        ys.len(),
-        sizes.len(),
-        tx_types.len(),
-        lossless.len(),
-        dcs.len(),
-        acs.len(),
-        counts.len(),
-    ) {
-        return Answer::Length;
+    if bad_lists(l) {
+        return Err(Refusal::Length);
     }
-    if bad_counts(sizes, counts, tokens.len()) {
-        return Answer::Length;
+    let tokens = l.tokens.len();
+    if bad_counts(l.sizes, l.counts, tokens) {
+        return Err(Refusal::Length);
     }
-    if too_large(area, n, tokens.len()) {
-        return Answer::TooLarge;
+    let records = l.xs.len();
+    if too_large(area, records, tokens) {
+        return Err(Refusal::TooLarge);
     }
-    if any_above(lossless, 1) {
-        return Answer::LosslessByte;
+    if any_above(l.lossless, 1) {
+        return Err(Refusal::LosslessByte);
     }
-    if room < file_length(area, n, tokens.len()) {
-        return Answer::Room;
+    if room < file_length(area, records, tokens) {
+        return Err(Refusal::Room);
     }
-    Answer::Done
+    Ok(())
 }
 
-// The two's complement word of a number.
-fn word(t: i32) -> u32
-    ensures { result ≡ word32 t }
+// Bytes, one after another. Each function takes the place to write at and hands back the place past what it wrote, as those of `vbk_text` do.
+fn put(out: &mut [u8], at: usize, bytes: &[u8]) -> usize
+    requires { Room out.old at bytes.now }
+    ensures { Put out.old at bytes.now result out.new }
 {
-    let m = answers::magnitude(words::long(t));
-    if t < 0 {
-        return (4294967296 - m) as u32;
-    }
-    m as u32
+    let end = at + bytes.len();
+    out[at..end].copy_from_slice(bytes);
+    end
 }
 
-// One byte. Each function takes the place to write at and hands back the place past what it wrote.
+// One byte.
 fn put_u8(out: &mut [u8], at: usize, b: u8) -> usize
     requires { Room out.old at (one b) }
     ensures { Put out.old at (one b) result out.new }
@@ -209,9 +171,7 @@ fn put_u16(out: &mut [u8], at: usize, x: u16) -> usize
     requires { Room out.old at (two x) }
     ensures { Put out.old at (two x) result out.new }
 {
-    out[at] = (x % 256) as u8;
-    out[at + 1] = (x / 256) as u8;
-    at + 2
+    put(out, at, &x.to_le_bytes())
 }
 
 // Four bytes, the least first, in two's complement.
@@ -219,12 +179,7 @@ fn put_i32(out: &mut [u8], at: usize, t: i32) -> usize
     requires { Room out.old at (four t) }
     ensures { Put out.old at (four t) result out.new }
 {
-    let u = word(t);
-    out[at] = (u % 256) as u8;
-    out[at + 1] = (u / 256 % 256) as u8;
-    out[at + 2] = (u / 65536 % 256) as u8;
-    out[at + 3] = (u / 16777216) as u8;
-    at + 4
+    put(out, at, &t.to_le_bytes())
 }
 
 // The header before the samples, at the start of the buffer.
@@ -247,10 +202,8 @@ fn put_samples(out: &mut [u8], at: usize, samples: &[u16]) -> usize
     ensures { Put out.old at (joined two samples.now) result out.new }
 {
     let mut place = at;
-    let mut k = 0;
-    while k < samples.len() {
+    for k in 0..samples.len() {
         place = put_u16(out, place, samples[k]);
-        k += 1;
     }
     place
 }
@@ -285,79 +238,48 @@ fn put_tokens(out: &mut [u8], at: usize, tokens: &[i32], from: usize, count: usi
     ensures { Put out.old at (joined four (tokens_from tokens.now from count)) result out.new }
 {
     let mut place = at;
-    let mut j = 0;
-    while j < count {
+    for j in 0..count {
         let k = from + j;
         place = put_i32(out, place, tokens[k]);
-        j += 1;
     }
     place
 }
 
-// Record k, whose tokens are the `count` from `from` on.
-fn put_record(
-    out: &mut [u8],
-    at: usize,
-    xs: &[u16],
-    ys: &[u16],
-    sizes: &[u8],
-    tx_types: &[u8],
-    lossless: &[u8],
-    dcs: &[u16],
-    acs: &[u16],
-    counts: &[u32],
-    tokens: &[i32],
-    k: usize,
-    from: usize,
-) -> usize
-    requires { (k < length xs.now) × Alike (record { depth = 0; width = 0; height = 0; samples = []; xs = xs.now; ys = ys.now; sizes = sizes.now; tx_types = tx_types.now; lossless = lossless.now; dcs = dcs.now; acs = acs.now; counts = counts.now; tokens = tokens.now }) × (from ≡ tokens_before counts.now k) × (from + get_or counts.now k 0 ≤ length tokens.now) × Room out.old at (entry_bytes (entry_of (record { depth = 0; width = 0; height = 0; samples = []; xs = xs.now; ys = ys.now; sizes = sizes.now; tx_types = tx_types.now; lossless = lossless.now; dcs = dcs.now; acs = acs.now; counts = counts.now; tokens = tokens.now }) k)) }
-    ensures { Put out.old at (entry_bytes (entry_of (record { depth = 0; width = 0; height = 0; samples = []; xs = xs.now; ys = ys.now; sizes = sizes.now; tx_types = tx_types.now; lossless = lossless.now; dcs = dcs.now; acs = acs.now; counts = counts.now; tokens = tokens.now }) k)) result out.new }
+// Record k, whose tokens are its count of them from `from` on.
+fn put_record(out: &mut [u8], at: usize, l: Lists, k: usize, from: usize) -> usize
+    requires { (k < length l.xs.now) × Alike (told l) × (from ≡ tokens_before l.counts.now k) × (from + get_or l.counts.now k 0 ≤ length l.tokens.now) × Room out.old at (entry_bytes (entry_of (told l) k)) }
+    ensures { Put out.old at (entry_bytes (entry_of (told l.entry) k)) result out.new }
 {
     let next = put_head(
         out,
         at,
-        xs[k],
-        ys[k],
-        sizes[k],
-        tx_types[k],
-        lossless[k],
-        dcs[k],
-        acs[k],
+        l.xs[k],
+        l.ys[k],
+        l.sizes[k],
+        l.tx_types[k],
+        l.lossless[k],
+        l.dcs[k],
+        l.acs[k],
     );
-    put_tokens(out, next, tokens, from, count32(counts[k]))
+    put_tokens(out, next, l.tokens, from, count32(l.counts[k]))
 }
 
 // All records, each with its share of the tokens.
-fn put_records(
-    out: &mut [u8],
-    at: usize,
-    xs: &[u16],
-    ys: &[u16],
-    sizes: &[u8],
-    tx_types: &[u8],
-    lossless: &[u8],
-    dcs: &[u16],
-    acs: &[u16],
-    counts: &[u32],
-    tokens: &[i32],
-) -> usize
-    requires { Alike (record { depth = 0; width = 0; height = 0; samples = []; xs = xs.now; ys = ys.now; sizes = sizes.now; tx_types = tx_types.now; lossless = lossless.now; dcs = dcs.now; acs = acs.now; counts = counts.now; tokens = tokens.now }) × (tokens_before counts.now (length counts.now) ≤ length tokens.now) × (length tokens.now ≤ FILE_LIMIT) × Room out.old at (each (length xs.now) (λ k. entry_bytes (entry_of (record { depth = 0; width = 0; height = 0; samples = []; xs = xs.now; ys = ys.now; sizes = sizes.now; tx_types = tx_types.now; lossless = lossless.now; dcs = dcs.now; acs = acs.now; counts = counts.now; tokens = tokens.now }) k))) }
-    ensures { Put out.old at (each (length xs.now) (λ k. entry_bytes (entry_of (record { depth = 0; width = 0; height = 0; samples = []; xs = xs.now; ys = ys.now; sizes = sizes.now; tx_types = tx_types.now; lossless = lossless.now; dcs = dcs.now; acs = acs.now; counts = counts.now; tokens = tokens.now }) k))) result out.new }
+fn put_records(out: &mut [u8], at: usize, l: Lists) -> usize
+    requires { Alike (told l) × (tokens_before l.counts.now (length l.counts.now) ≤ length l.tokens.now) × (length l.tokens.now ≤ FILE_LIMIT) × Room out.old at (each (length l.xs.now) (λ k. entry_bytes (entry_of (told l) k))) }
+    ensures { Put out.old at (each (length l.entry.xs.now) (λ k. entry_bytes (entry_of (told l.entry) k))) result out.new }
 {
     let mut place = at;
     let mut from = 0;
-    let mut k = 0;
-    while k < xs.len() {
-        place = put_record(
-            out, place, xs, ys, sizes, tx_types, lossless, dcs, acs, counts, tokens, k, from,
-        );
-        from += count32(counts[k]);
-        k += 1;
+    for k in 0..l.xs.len() {
+        place = put_record(out, place, l, k, from);
+        from += count32(l.counts[k]);
     }
     place
 }
 
-// The file at the front of `out`: header, samples, and the records in the order given, record k with the next `counts[k]` of the tokens.
+// The file at the front of `out`: header, samples, and the records in the order given, record k with the next `counts[k]` of the tokens. How
+// long it is, or the refusal.
 pub fn vbk_write(
     depth: u8,
     width: u16,
@@ -373,10 +295,10 @@ pub fn vbk_write(
     counts: &[u32],
     tokens: &[i32],
     out: &mut [u8],
-) -> Written
+) -> Result<usize, Refusal>
     ensures { Wrote (record { depth = depth; width = width; height = height; samples = samples.now; xs = xs.now; ys = ys.now; sizes = sizes.now; tx_types = tx_types.now; lossless = lossless.now; dcs = dcs.now; acs = acs.now; counts = counts.now; tokens = tokens.now }) out.old result out.new }
 {
-    let answer = check(
+    let lists = Lists {
         depth,
         width,
         height,
@@ -390,15 +312,9 @@ pub fn vbk_write(
         acs,
         counts,
         tokens,
-        out.len(),
-    );
-    if answers::code(answer) != 0 {
-        return Written { answer, length: 0 };
-    }
+    };
+    check(lists, out.len())?;
     let a = put_header(out, depth, width, height);
     let b = put_samples(out, a, samples);
-    let length = put_records(
-        out, b, xs, ys, sizes, tx_types, lossless, dcs, acs, counts, tokens,
-    );
-    Written { answer, length }
+    Ok(put_records(out, b, lists))
 }

@@ -5,14 +5,14 @@ use Rattle.exports.proofs.bracetwill_replay.Goals as goal
 pub returns-then-figures-lt-FIGURES : goal.returns-then-figures-lt-FIGURES
 returns-then-figures-lt-FIGURES c =
     let a = c.args in
-    short a.file.now a.samples.now a.answers.now a.figures.now (omega arith) c.code.ensures
+    short a.file.now a.samples.now a.answers.now a.figures.now (omega arith) c.from.ensures
 
-pub returns-then-number-ne0 : goal.returns-then-number-ne0
-returns-then-number-ne0 c =
+pub returns-in-Err : goal.returns-in-Err
+returns-in-Err c =
     let a = c.args in
-    refused a.file.now a.samples.now a.answers.now a.figures.now (omega arith) c.replay-run.ensures c.code-number.ensures c.if-number-ne0.true
+    refused a.file.now a.samples.now a.answers.now a.figures.now (omega arith) c.in-Err.ensures c.from-in-Err.ensures
 
-pub returns : goal.returns
-returns c =
+pub returns-in-Ok : goal.returns-in-Ok
+returns-in-Ok c =
     let a = c.args in
-    done a.file.now a.samples.now a.answers.now a.figures.now (omega arith) c.replay-run.ensures c.code-number.ensures (omega arith) c.put_figures.ensures
+    done a.file.now a.samples.now a.answers.now a.figures.now (omega arith) c.in-Ok.ensures c.put_figures.ensures

@@ -13,8 +13,8 @@ request s =
       size = s.args.length.now;
     }
 
-pub returns-then-number-ne0 : goal.returns-then-number-ne0
-returns-then-number-ne0 c = refused (request c.before.before.before.before.before.before.before.before.before.before.before.before.before.before.before.before.before) c.vbk_write-written.ensures c.code-number.ensures c.if-number-ne0.true
+pub returns-in-Err : goal.returns-in-Err
+returns-in-Err c = refused (request (goal.at.returns-in-Err c).Start) c.in-Err.ensures c.from.ensures
 
-pub returns : goal.returns
-returns c = done (request c.before.before.before.before.before.before.before.before.before.before.before.before.before.before.before.before.before.before) c.vbk_write-written.ensures c.code-number.ensures c.if-number-ne0.false refl
+pub returns-in-Ok : goal.returns-in-Ok
+returns-in-Ok c = done (request (goal.at.returns-in-Ok c).Start) c.in-Ok.ensures refl

@@ -1,35 +1,34 @@
 use mathlib.Core.Path.{sym, ◌∙◌}
-use Rattle.vbk.proofs.Printing.{short_out, short_samples, short_answers, refusal_room, refusal_printed, count_fits, area_fits, run_room, run_printed}
+use Rattle.vbk.proofs.Printing.{short_out, short_rooms, refusal_room, refusal_printed, count_fits, area_fits, run_room, run_printed}
 use Rattle.vbk.proofs.blockrun.Goals as goal
 
 pub returns-then-out-lt-TEXT_LIMIT : goal.returns-then-out-lt-TEXT_LIMIT
 returns-then-out-lt-TEXT_LIMIT c = let a = c.args in short_out a.file.now a.samples.now a.answers.now a.out.now c.if-out-lt-TEXT_LIMIT.true
 
-pub returns-then-samples-lt-AREA_LIMIT : goal.returns-then-samples-lt-AREA_LIMIT
-returns-then-samples-lt-AREA_LIMIT c = let a = c.args in short_samples a.file.now a.samples.now a.answers.now a.out.now c.if-samples-lt-AREA_LIMIT.true
-
-pub returns-then-answers-lt-RECORD_LIMIT : goal.returns-then-answers-lt-RECORD_LIMIT
-returns-then-answers-lt-RECORD_LIMIT c = let a = c.args in short_answers a.file.now a.samples.now a.answers.now a.out.now c.if-samples-lt-AREA_LIMIT.false c.if-answers-lt-RECORD_LIMIT.true
+pub returns-then-not-roomy : goal.returns-then-not-roomy
+returns-then-not-roomy c = let a = c.args in short_rooms a.file.now a.samples.now a.answers.now a.out.now (sym c.roomy.ensures ∙ c.if-not-roomy.true)
 
 pub write_refusal-requires : goal.write_refusal-requires
 write_refusal-requires c =
     let a = c.args in
-    refusal_room a.file.now a.samples.now a.answers.now a.out.now c.if-out-lt-TEXT_LIMIT.false c.if-samples-lt-AREA_LIMIT.false c.if-answers-lt-RECORD_LIMIT.false c.replay-run.ensures c.code-number.ensures
+    refusal_room a.file.now a.samples.now a.answers.now a.out.now c.if-out-lt-TEXT_LIMIT.false (sym c.roomy.ensures ∙ c.if-not-roomy.false) c.in-Err.ensures (c.from-in-Err.ensures ∙ c.from.ensures)
 
-pub returns-then-number-ne0 : goal.returns-then-number-ne0
-returns-then-number-ne0 c =
+pub returns-in-Err : goal.returns-in-Err
+returns-in-Err c =
     let a = c.args in
-    refusal_printed a.file.now a.samples.now a.answers.now a.out.now c.if-out-lt-TEXT_LIMIT.false c.if-samples-lt-AREA_LIMIT.false c.if-answers-lt-RECORD_LIMIT.false c.replay-run.ensures c.code-number.ensures c.if-number-ne0.true c.write_refusal.ensures
+    refusal_printed a.file.now a.samples.now a.answers.now a.out.now c.if-out-lt-TEXT_LIMIT.false (sym c.roomy.ensures ∙ c.if-not-roomy.false) c.in-Err.ensures (c.from-in-Err.ensures ∙ c.from.ensures) c.write_refusal.ensures
 
 pub print_run-requires : goal.print_run-requires
 print_run-requires c =
-    let a = c.args in (
-      count_fits a.file.now a.samples.now a.answers.now a.out.now c.if-out-lt-TEXT_LIMIT.false c.if-samples-lt-AREA_LIMIT.false c.if-answers-lt-RECORD_LIMIT.false c.replay-run.ensures (sym c.code-number.ensures ∙ c.if-number-ne0.false) c.replay-run.auto.samples c.replay-run.auto.answers,
-      area_fits a.file.now a.samples.now a.answers.now a.out.now c.if-out-lt-TEXT_LIMIT.false c.if-samples-lt-AREA_LIMIT.false c.if-answers-lt-RECORD_LIMIT.false c.replay-run.ensures (sym c.code-number.ensures ∙ c.if-number-ne0.false) c.replay-run.auto.samples c.replay-run.auto.answers,
-      run_room a.file.now a.samples.now a.answers.now a.out.now c.if-out-lt-TEXT_LIMIT.false c.if-samples-lt-AREA_LIMIT.false c.if-answers-lt-RECORD_LIMIT.false c.replay-run.ensures (sym c.code-number.ensures ∙ c.if-number-ne0.false) c.replay-run.auto.samples c.replay-run.auto.answers (λ k. (c.type_inv.file k).fits) (λ k. (c.slice_known-4-1.given k).fits) (λ k. (c.slice_known-5-1.given k).fits),
+    let a = c.args in
+    let r = sym c.roomy.ensures ∙ c.if-not-roomy.false in
+    let d = c.in-Ok.ensures in (
+      count_fits a.file.now a.samples.now a.answers.now a.out.now c.if-out-lt-TEXT_LIMIT.false r d c.replay.auto.samples c.replay.auto.answers,
+      area_fits a.file.now a.samples.now a.answers.now a.out.now c.if-out-lt-TEXT_LIMIT.false r d c.replay.auto.samples c.replay.auto.answers,
+      run_room a.file.now a.samples.now a.answers.now a.out.now c.if-out-lt-TEXT_LIMIT.false r d c.replay.auto.samples c.replay.auto.answers (λ k. (c.type_inv.file k).fits) (λ k. (c.slice_known-4-1.given k).fits) (λ k. (c.slice_known-5-1.given k).fits),
     )
 
-pub returns : goal.returns
-returns c =
+pub returns-in-Ok : goal.returns-in-Ok
+returns-in-Ok c =
     let a = c.args in
-    run_printed a.file.now a.samples.now a.answers.now a.out.now c.if-out-lt-TEXT_LIMIT.false c.if-samples-lt-AREA_LIMIT.false c.if-answers-lt-RECORD_LIMIT.false c.replay-run.ensures (sym c.code-number.ensures ∙ c.if-number-ne0.false) c.replay-run.auto.samples c.replay-run.auto.answers (λ k. (c.type_inv.file k).fits) (λ k. (c.slice_known-4-1.given k).fits) (λ k. (c.slice_known-5-1.given k).fits) c.print_run.ensures
+    run_printed a.file.now a.samples.now a.answers.now a.out.now c.if-out-lt-TEXT_LIMIT.false (sym c.roomy.ensures ∙ c.if-not-roomy.false) c.in-Ok.ensures c.replay.auto.samples c.replay.auto.answers (λ k. (c.type_inv.file k).fits) (λ k. (c.slice_known-4-1.given k).fits) (λ k. (c.slice_known-5-1.given k).fits) c.print_run.ensures

@@ -23,11 +23,11 @@ pub write_run-requires : goal.write_run-requires
 write_run-requires c =
     let a = c.args in
     let n = c.plane_area-n.result in (
-      rw (length-take-le n a.samples.now (area_fits (goal.at.write_run-requires c).After-plane_area-n), c.plane_area-n.ensures, c.count16-width.ensures, c.count16-height.ensures, N.mul_comm a.run.fields.height a.run.fields.width) (N.le_refl _),
-      room_as a.out.now 0 (ap text (sym (shown a.run a.samples.now a.answers.now c.wide16-version.ensures c.byte64-depth.ensures c.count16-width.ensures c.count16-height.ensures c.plane_area-n.ensures))) c.requires.2,
+      rw (length-take-le n a.samples.now (area_fits (goal.at.write_run-requires c).After-plane_area-n), c.plane_area-n.ensures, c.from-width.ensures, c.from-height.ensures, N.mul_comm a.run.fields.height a.run.fields.width) (N.le_refl _),
+      room_as a.out.now 0 (ap text (sym (shown a.run a.samples.now a.answers.now c.from-version.ensures c.from-depth.ensures c.from-width.ensures c.from-height.ensures c.plane_area-n.ensures))) c.requires.2,
     )
 
 pub returns : goal.returns
 returns c =
     let a = c.args in
-    put_as (ap text (shown a.run a.samples.now a.answers.now c.wide16-version.ensures c.byte64-depth.ensures c.count16-width.ensures c.count16-height.ensures c.plane_area-n.ensures)) c.write_run.ensures
+    put_as (ap text (shown a.run a.samples.now a.answers.now c.from-version.ensures c.from-depth.ensures c.from-width.ensures c.from-height.ensures c.plane_area-n.ensures)) c.write_run.ensures

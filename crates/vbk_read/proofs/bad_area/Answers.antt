@@ -6,6 +6,6 @@ pub returns-then-area-eq0 : goal.returns-then-area-eq0
 unfolding bad_area
 returns-then-area-eq0 c = rw (eq-eqb c.args.area 0 c.if-area-eq0.true)
 
-pub returns : goal.returns
+pub returns-else-area-eq0 : goal.returns-else-area-eq0
 unfolding bad_area
-returns c = rw (ne_eqb c.args.area 0 c.if-area-eq0.false)
+returns-else-area-eq0 c = rw (ne_eqb c.args.area 0 c.if-area-eq0.false)

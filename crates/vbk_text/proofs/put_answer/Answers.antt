@@ -27,7 +27,7 @@ put_word-c-requires c =
     let w = word (get_or a.answers.now a.index 0) in
     let left1 = todo_next (66 ∷ []) (word a.index ⨾ w ⨾ newline) (todo_all a.out.now a.at (answer_line a.answers.now a.index) c.requires.1) c.put_byte-a.ensures in
     let left2 = todo_next (word a.index) (w ⨾ newline) left1 c.put_word-b.ensures in
-    room_as c.put_word-b.new.out c.put_word-b.result (ap word (sym c.byte64.ensures)) (todo_room w newline left2)
+    room_as c.put_word-b.new.out c.put_word-b.result (ap word (sym c.from.ensures)) (todo_room w newline left2)
 
 pub put_byte-requires : goal.put_byte-requires
 unfolding answer_line
@@ -36,7 +36,7 @@ put_byte-requires c =
     let w = word (get_or a.answers.now a.index 0) in
     let left1 = todo_next (66 ∷ []) (word a.index ⨾ w ⨾ newline) (todo_all a.out.now a.at (answer_line a.answers.now a.index) c.requires.1) c.put_byte-a.ensures in
     let left2 = todo_next (word a.index) (w ⨾ newline) left1 c.put_word-b.ensures in
-    (todo_next w newline left2 (put_as (ap word c.byte64.ensures) c.put_word-c.ensures)).room
+    (todo_next w newline left2 (put_as (ap word c.from.ensures) c.put_word-c.ensures)).room
 
 pub returns : goal.returns
 unfolding answer_line
@@ -45,4 +45,4 @@ returns c =
     let w = word (get_or a.answers.now a.index 0) in
     let left1 = todo_next (66 ∷ []) (word a.index ⨾ w ⨾ newline) (todo_all a.out.now a.at (answer_line a.answers.now a.index) c.requires.1) c.put_byte-a.ensures in
     let left2 = todo_next (word a.index) (w ⨾ newline) left1 c.put_word-b.ensures in
-    todo_last (todo_next w newline left2 (put_as (ap word c.byte64.ensures) c.put_word-c.ensures)) c.put_byte.ensures
+    todo_last (todo_next w newline left2 (put_as (ap word c.from.ensures) c.put_word-c.ensures)) c.put_byte.ensures

@@ -1,4 +1,3 @@
-use Prim.Native.Nat.{◌-◌}
 use lib.ListN.{length}
 use Rattle.vbk_text.specs.Text.{answer_line}
 use Rattle.vbk_text.proofs.Writing.{Pieces}
@@ -6,6 +5,3 @@ use Rattle.vbk_text.proofs.put_answers.Given as goal
 
 abbrev pub invariant-loop-i : goal.invariant-loop-i
 invariant-loop-i l = Pieces l.initial.out l.initial.place (length l.answers) (answer_line l.answers) l.i l.out l.place
-
-abbrev pub decreases-loop-i : goal.decreases-loop-i
-decreases-loop-i l = length l.answers - l.i

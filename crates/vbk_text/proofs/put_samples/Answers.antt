@@ -13,11 +13,11 @@ loop-c-init c =
 
 pub put_word-place-requires : goal.put_word-place-requires
 put_word-place-requires c =
-    room_as c.loop-c.out c.loop-c.place (ap word (sym c.wide16.ensures)) (pieces_room c.loop-c.invariant c.loop-c-test.true)
+    room_as c.loop-c.out c.loop-c.place (ap word (sym c.from.ensures)) (pieces_room c.loop-c.invariant c.loop-c-test.true)
 
 pub loop-c-preserved : goal.loop-c-preserved
 loop-c-preserved c =
-    pieces_more c.loop-c.invariant c.loop-c-test.true (put_as (ap word c.wide16.ensures) c.put_word-place.ensures)
+    pieces_more c.loop-c.invariant c.loop-c-test.true (put_as (ap word c.from.ensures) c.put_word-place.ensures)
 
 pub shape_of-out : goal.shape_of-out
 shape_of-out c = pieces_length c.loop-c.invariant

@@ -1,25 +1,20 @@
-use mathlib.Core.Path.{◌≡◌, sym}
-use native.Mathlib.Omega.{arith}
+use mathlib.Core.Path.{sym, ap, ◌∙◌}
+use native.Mathlib.Nat as N
 use borrow.Author.Rules.{rules}
-use borrow.Author.Tests.{lt-ltb, le-ltb}
+use borrow.Author.Tests.{tests}
+use lib.Dec.{ltb}
 use lib.ListN.{length}
-use Rattle.whole.proofs.Tests.{any_none, any_more, any_hit}
+use Rattle.std.proofs.Math.Seq.{take-length}
+use Rattle.std.proofs.lemmas.Iterator.{YieldsList-from_slice}
+use Rattle.std.proofs.lemmas.Iterator.Search.{any_from_yields_List}
+use Rattle.std.specs.List.{list_any}
+use Rattle.whole.proofs.Scans.{any_front}
 use Rattle.vbk_write.specs.Promises.{any_above}
 use Rattle.vbk_write.proofs.any_above.Goals as goal
-
-pub returns-then-most-list : goal.returns-then-most-list
-unfolding any_above
-returns-then-most-list c =
-    sym (any_hit _ c.loop-i.i _ c.loop-i-test.true (lt-ltb _ _ c.if-most-list.true))
-
-pub loop-i-preserved : goal.loop-i-preserved
-loop-i-preserved c = (search rules, any_more _ _ c.loop-i.invariant.1 (le-ltb _ _ c.if-most-list.false))
 
 pub returns : goal.returns
 unfolding any_above
 returns c =
-    let e : length c.args.list.now ≡ c.loop-i.i = omega arith in
-    rw e (sym c.loop-i.invariant.1)
-
-pub loop-i-init : goal.loop-i-init
-loop-i-init c = (search rules, any_none _)
+    let l = c.args.list.now in
+    any_from_yields_List (λ t. ltb c.args.most t) _ _ c.any.result c.any.ensures.ran (YieldsList-from_slice _ cc) (λ x b q k. search (rules, tests))
+    ∙ ap (list_any (λ t. ltb c.args.most t)) (sym (take-length l)) ∙ any_front (λ t. ltb c.args.most t) 0 (length l) l (N.le_refl _)

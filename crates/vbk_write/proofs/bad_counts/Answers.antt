@@ -18,22 +18,19 @@ loop-i-init c = (search rules, any_none _, search rules, search rules)
 pub bounds-sizes-i : goal.bounds-sizes-i
 bounds-sizes-i c = omega (arith, c.loop-i-test.true, c.requires.0)
 
-pub overflow_add-size : goal.overflow_add-size
-overflow_add-size c = omega (arith, c.byte32-size.ensures.1)
-
 -- the size is not above 3
-small : (c : After-count32-count) → c.byte32-size.result ≤ 3
+small : (c : After-count32-count) → c.from-size.result ≤ 3
 small c =
     let p = c.requires in
     let k = none_above 3 c.args.sizes.now c.loop-i.i p.1 (omega (arith, c.loop-i-test.true, p.0)) in
-    omega (arith, k, c.byte32-size.ensures.0)
+    omega (arith, k, c.from-size.ensures)
 
 pub area-requires : goal.area-requires
 area-requires c = (search rules, omega (arith, small c))
 
 -- what the turn compares
 count_is : (c : After-area) → c.area.result ≡ area (get_or c.args.sizes.now c.loop-i.i 0 + 2)
-count_is c = c.area.ensures.0 ∙ ap (λ k. area (k + 2)) c.byte32-size.ensures.0
+count_is c = c.area.ensures.0 ∙ ap (λ k. area (k + 2)) c.from-size.ensures
 
 pub returns-then-count-area : goal.returns-then-count-area
 returns-then-count-area c =

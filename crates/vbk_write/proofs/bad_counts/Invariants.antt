@@ -1,6 +1,6 @@
 use mathlib.Core.Path.{◌≡◌}
 use mathlib.Core.Bool.{false, not}
-use Prim.Native.Nat.{◌+◌, ◌-◌, ◌≤◌}
+use Prim.Native.Nat.{◌+◌, ◌≤◌}
 use lib.Dec.{eqb}
 use lib.ListN.{length, get_or}
 use Rattle.whole.specs.Tests.{any_below}
@@ -15,6 +15,3 @@ invariant-loop-i l =
     × (any_below (λ k. not (eqb (get_or l.counts k 0) (area (get_or l.sizes k 0 + 2)))) l.i ≡ false)
     × (l.total ≡ tokens_before l.counts l.i)
     × (l.total ≤ l.tokens)
-
-abbrev pub decreases-loop-i : goal.decreases-loop-i
-decreases-loop-i l = length l.counts - l.i

@@ -1,29 +1,25 @@
 use mathlib.Core.Path.{refl}
-use mathlib.Core.List.{[]}
 use Prim.Native.Nat.{◌+◌, ◌≤◌}
 use native.Mathlib.Omega.{arith}
 use lib.ListN.{length, get_or}
 use Rattle.vbk_text.proofs.Writing.{pieces_none, pieces_room, pieces_more, pieces_done, pieces_length}
 use Rattle.vbk_write.specs.Clip.{entry_bytes}
-use Rattle.vbk_write.specs.Lent.{Lent, tokens_before, entry_of}
+use Rattle.vbk_write.specs.Lent.{tokens_before, entry_of}
+use Rattle.vbk_write.specs.Inner.{told}
 use Rattle.vbk_write.proofs.Counts.{before_more, before_next}
 use Rattle.vbk_write.proofs.put_records.Goals as goal
-use Rattle.vbk_write.proofs.put_records.Goals.{In-loop-k, Start}
-
--- what is lent of the records
-abbrev lent : Start → Lent
-lent s = record { depth = 0; width = 0; height = 0; samples = []; xs = s.args.xs.now; ys = s.args.ys.now; sizes = s.args.sizes.now; tx_types = s.args.tx_types.now; lossless = s.args.lossless.now; dcs = s.args.dcs.now; acs = s.args.acs.now; counts = s.args.counts.now; tokens = s.args.tokens.now }
+use Rattle.vbk_write.proofs.put_records.Goals.{In-loop-k}
 
 pub loop-k-init : goal.loop-k-init
 unfolding tokens_before
 loop-k-init c =
-    (pieces_none c.args.out.now c.args.at (length c.args.xs.now) (λ i. entry_bytes (entry_of (lent (goal.at.loop-k-init c).Start) i)) c.requires.3, refl)
+    (pieces_none c.args.out.now c.args.at (length c.args.l.xs.now) (λ i. entry_bytes (entry_of (told c.args.l) i)) c.requires.3, refl)
 
 -- the tokens of record k are there
-there : (c : In-loop-k) → let a = c.args in c.loop-k.from + get_or a.counts.now c.loop-k.k 0 ≤ length a.tokens.now
+there : (c : In-loop-k) → let a = c.args in c.loop-k.from + get_or a.l.counts.now c.loop-k.k 0 ≤ length a.l.tokens.now
 there c =
     let l = c.loop-k in
-    let h = before_more c.args.counts.now l.k (length c.args.counts.now) (omega (arith, c.loop-k-test.true, c.requires.0.counts)) in
+    let h = before_more c.args.l.counts.now l.k (length c.args.l.counts.now) (omega (arith, c.loop-k-test.true, c.requires.0.counts)) in
     omega (arith, h, l.invariant.1, c.requires.1)
 
 pub put_record-place-requires : goal.put_record-place-requires
@@ -31,8 +27,8 @@ put_record-place-requires c =
     let l = c.loop-k in
     (c.loop-k-test.true, c.requires.0, l.invariant.1, there (goal.at.put_record-place-requires c).In-loop-k, pieces_room l.invariant.0 c.loop-k-test.true)
 
-pub bounds-counts-k : goal.bounds-counts-k
-bounds-counts-k c = omega (arith, c.loop-k-test.true, c.requires.0.counts)
+pub bounds-l-k : goal.bounds-l-k
+bounds-l-k c = omega (arith, c.loop-k-test.true, c.requires.0.counts)
 
 pub overflow_add-from : goal.overflow_add-from
 overflow_add-from c =
@@ -42,7 +38,7 @@ pub loop-k-preserved : goal.loop-k-preserved
 loop-k-preserved c =
     let l = c.loop-k in (
       pieces_more l.invariant.0 c.loop-k-test.true c.put_record-place.ensures,
-      before_next c.args.counts.now l.k l.invariant.1 c.count32-from.ensures,
+      before_next c.args.l.counts.now l.k l.invariant.1 c.count32-from.ensures,
     )
 
 pub shape_of-out : goal.shape_of-out

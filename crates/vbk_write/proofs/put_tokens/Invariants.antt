@@ -1,4 +1,4 @@
-use Prim.Native.Nat.{◌+◌, ◌-◌}
+use Prim.Native.Nat.{◌+◌}
 use lib.IntN.{pos}
 use lib.ListN.{get_or}
 use Rattle.vbk_text.proofs.Writing.{Pieces}
@@ -7,6 +7,3 @@ use Rattle.vbk_write.proofs.put_tokens.Given as goal
 
 abbrev pub invariant-loop-j : goal.invariant-loop-j
 invariant-loop-j l = Pieces l.initial.out l.initial.place l.count (λ i. four (get_or l.tokens (l.from + i) (pos 0))) l.j l.out l.place
-
-abbrev pub decreases-loop-j : goal.decreases-loop-j
-decreases-loop-j l = l.count - l.j

@@ -1,8 +1,8 @@
-use mathlib.Core.Path.{◌≡◌, sym, ◌∙◌}
+use mathlib.Core.Path.{◌≡◌, sym}
+use Rattle.std.proofs.lemmas.Result.{err_from_is_err_and}
 use mathlib.Core.List.{List, ◌++◌}
 use Prim.Native.Nat.{ℕ, ◌+◌}
 use native.Mathlib.Omega.{arith}
-use borrow.Author.Rules.{rules}
 use lib.ListN.{length}
 use lib.Seq.{sets}
 use Rattle.vbk_text.specs.Inner.{Put}
@@ -42,27 +42,28 @@ module _ (l : Lent) (o : List ℕ) (fine : answer_of l (length o) ≡ 0) where
 abbrev lent : Start → Lent
 lent s = record { depth = s.args.depth; width = s.args.width; height = s.args.height; samples = s.args.samples.now; xs = s.args.xs.now; ys = s.args.ys.now; sizes = s.args.sizes.now; tx_types = s.args.tx_types.now; lossless = s.args.lossless.now; dcs = s.args.dcs.now; acs = s.args.acs.now; counts = s.args.counts.now; tokens = s.args.tokens.now }
 
-pub returns-then-code-ne0 : goal.returns-then-code-ne0
-returns-then-code-ne0 c =
-    refused (lent (goal.at.returns-then-code-ne0 c).Start) c.args.out.now c.check-answer.ensures (λ z. c.if-code-ne0.true (c.code.ensures ∙ z)) (search rules)
+pub returns-in_err-check : goal.returns-in_err-check
+returns-in_err-check c =
+    let p = err_from_is_err_and c.from_residual.result c.from_residual.ensures.1 in
+    rw (p.1, p.2) (refused (lent (goal.at.returns-in_err-check c).Start) c.args.out.now c.in_err-check.ensures)
 
 pub put_header-a-requires : goal.put_header-a-requires
 put_header-a-requires c =
     let l = lent (goal.at.put_header-a-requires c).Start in
     todo_room (header_bytes l.depth l.width l.height) (joined two l.samples ++ entries l)
-    (left0 l c.args.out.now (sym c.check-answer.ensures ∙ sym c.code.ensures ∙ c.if-code-ne0.false))
+    (left0 l c.args.out.now (sym c.in_ok-check.ensures))
 
 pub put_samples-b-requires : goal.put_samples-b-requires
 put_samples-b-requires c =
     let l = lent (goal.at.put_samples-b-requires c).Start in
     todo_room (joined two l.samples) (entries l)
-    (left1 l c.args.out.now (sym c.check-answer.ensures ∙ sym c.code.ensures ∙ c.if-code-ne0.false) c.put_header-a.ensures)
+    (left1 l c.args.out.now (sym c.in_ok-check.ensures) c.put_header-a.ensures)
 
-pub put_records-length-requires : goal.put_records-length-requires
+pub put_records-requires : goal.put_records-requires
 unfolding entry_of
-put_records-length-requires c =
-    let l = lent (goal.at.put_records-length-requires c).Start in
-    let fine = sym c.check-answer.ensures ∙ sym c.code.ensures ∙ c.if-code-ne0.false in
+put_records-requires c =
+    let l = lent (goal.at.put_records-requires c).Start in
+    let fine = sym c.in_ok-check.ensures in
     let t = taken l (length c.args.out.now) fine in
     let a = t.fits.lists_are in (
       record { ys = a.ys; sizes = a.sizes; tx_types = a.tx_types; lossless = a.lossless; dcs = a.dcs; acs = a.acs; counts = a.counts },
@@ -75,6 +76,6 @@ pub returns : goal.returns
 unfolding entry_of
 returns c =
     let l = lent (goal.at.returns c).Start in
-    let fine = sym c.check-answer.ensures ∙ sym c.code.ensures ∙ c.if-code-ne0.false in
-    done l c.args.out.now c.check-answer.ensures fine
-    (put_as (in_order l) (todo_last (left2 l c.args.out.now fine c.put_header-a.ensures c.put_samples-b.ensures) c.put_records-length.ensures))
+    let fine = sym c.in_ok-check.ensures in
+    done l c.args.out.now fine
+    (put_as (in_order l) (todo_last (left2 l c.args.out.now fine c.put_header-a.ensures c.put_samples-b.ensures) c.put_records.ensures))

@@ -21,8 +21,8 @@ loop-k-preserved c =
     let a = c.args in
     let l = c.loop-k in
     let got = c.read_i32-got in
-    let e : to_z w64 (of_z w64 c.long.result) ≡ signed32 (le4 a.s.now (a.self.at + 4 * l.k)) =
-    to_z-of_z w64 c.long.result (record { sfits = c.long.type_inv }) ∙ c.long.ensures ∙ back32 got.result.value c.struct_told-1.given.0.1 ∙ got.ensures.value_is ∙ ap (λ (p : ℕ). signed32 (le4 a.s.now p)) l.invariant.1
+    let e : to_z w64 (of_z w64 c.from.result) ≡ signed32 (le4 a.s.now (a.self.at + 4 * l.k)) =
+    to_z-of_z w64 c.from.result (record { sfits = c.from.type_inv }) ∙ c.from.ensures ∙ back32 got.result.value c.struct_told-1.given.0.1 ∙ got.ensures.value_is ∙ ap (λ (p : ℕ). signed32 (le4 a.s.now p)) l.invariant.1
     in
     (search rules, omega (arith, l.invariant.1, got.ensures.next_is), search rules, fill_more _ _ l.k l.invariant.3 (ap (set l.tokens l.k) e))
 
