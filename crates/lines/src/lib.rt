@@ -142,6 +142,7 @@ impl<'a> Line<'a> {
             return Err(Broken);
         }
         let mut done = 0;
+        // a turn stores a run, of as many elements as the line says
         while done < count {
             let run = self.run()?;
             let value = make(run.value)?;
@@ -184,6 +185,7 @@ impl<'a> Line<'a> {
             return Err(Broken);
         }
         let mut left = found;
+        // a turn compares a run, of as many elements as the line says
         while !left.is_empty() {
             let run = self.run()?;
             let (front, behind) = left.split_at_checked(run.count).ok_or(Broken)?;
