@@ -1,5 +1,6 @@
 // Calls of the forward WHT and the quantizer.
-use crate::drivers::room;
+use crate::drivers::ROOM;
+use answers::Answer;
 use quant::{AcQuant, DcQuant};
 
 // Sixteen numbers mostly.
@@ -8,18 +9,6 @@ fn wht_lent(r: u64) -> usize {
         return (r / 16 % 33) as usize;
     }
     16
-}
-
-fn wht(block: &mut [i64], key: u64, digest: u64) -> u64 {
-    draws::fill(block, draws::draw(key, 5), draws::draw(key, 6) % 8);
-    let answer = answers::code(fwd_transform::forward_wht_2d(block));
-    draws::feed_list(draws::feed(digest, answer as u64), block)
-}
-
-pub fn forward_wht(key: u64, digest: u64) -> u64 {
-    let mut room = room();
-    let count = draws::within(wht_lent(draws::draw(key, 2)), &room);
-    wht(&mut room[..count], key, digest)
 }
 
 // A short list mostly; else up to one that is too long.
@@ -32,61 +21,74 @@ fn quantizer_lent(r: u64) -> usize {
     }
 }
 
-// One call, with a size and a depth or without.
-fn code(coefs: &mut [i64], key: u64, sized: bool) -> u32 {
-    let dc = DcQuant(draws::quantizer(draws::draw(key, 3)));
-    let ac = AcQuant(draws::quantizer(draws::draw(key, 4)));
-    if sized {
-        let size = draws::size(draws::draw(key, 1));
-        let depth = draws::depth(draws::draw(key, 7));
-        return answers::code(fwd_transform::quantize_block_tx(coefs, dc, ac, size, depth));
+// The digest after the answer of a call on so many numbers, and the numbers as the call leaves them.
+fn call<F: FnOnce(&mut [i64]) -> Answer>(key: u64, digest: u64, lent: usize, code: F) -> u64
+    requires { F.IsAlwaysCallable code }
+{
+    let mut room = [0i64; ROOM];
+    let count = draws::within(lent, &room);
+    let numbers = &mut room[..count];
+    draws::fill(numbers, draws::draw(key, 5), draws::draw(key, 6) % 8);
+    let answer = code(numbers);
+    draws::feed_list(
+        draws::feed(digest, u64::from(answers::code(answer))),
+        numbers,
+    )
+}
+
+pub fn forward_wht(key: u64, digest: u64) -> u64 {
+    call(
+        key,
+        digest,
+        wht_lent(draws::draw(key, 2)),
+        fwd_transform::forward_wht_2d,
+    )
+}
+
+// What a call of the quantizer is given beside the coefficients.
+#[derive(Clone, Copy)]
+struct Quantizer {
+    dc: DcQuant,
+    ac: AcQuant,
+    size: u32,
+    depth: u32,
+}
+
+impl Quantizer {
+    fn drawn(key: u64) -> Quantizer {
+        Quantizer {
+            dc: DcQuant(draws::quantizer(draws::draw(key, 3))),
+            ac: AcQuant(draws::quantizer(draws::draw(key, 4))),
+            size: draws::size(draws::draw(key, 1)),
+            depth: draws::depth(draws::draw(key, 7)),
+        }
     }
-    answers::code(fwd_transform::quantize_block(coefs, dc, ac))
-}
-
-fn coded(coefs: &mut [i64], key: u64, sized: bool, digest: u64) -> u64 {
-    draws::fill(coefs, draws::draw(key, 5), draws::draw(key, 6) % 8);
-    let answer = code(coefs, key, sized);
-    draws::feed_list(draws::feed(digest, answer as u64), coefs)
-}
-
-fn code_list(key: u64, digest: u64, sized: bool) -> u64 {
-    let mut room = room();
-    let count = draws::within(quantizer_lent(draws::draw(key, 2)), &room);
-    coded(&mut room[..count], key, sized, digest)
 }
 
 pub fn quantize_tx(key: u64, digest: u64) -> u64 {
-    code_list(key, digest, true)
+    let q = Quantizer::drawn(key);
+    call(key, digest, quantizer_lent(draws::draw(key, 2)), |coefs| {
+        fwd_transform::quantize_block_tx(coefs, q.dc, q.ac, q.size, q.depth)
+    })
 }
 
 pub fn quantize(key: u64, digest: u64) -> u64 {
-    code_list(key, digest, false)
+    let q = Quantizer::drawn(key);
+    call(key, digest, quantizer_lent(draws::draw(key, 2)), |coefs| {
+        fwd_transform::quantize_block(coefs, q.dc, q.ac)
+    })
 }
 
-// One call with a rule, which is drawn as a size is: 1 and 2 are good, others are refused.
-fn code_by_rule(coefs: &mut [i64], key: u64) -> u32 {
-    let dc = DcQuant(draws::quantizer(draws::draw(key, 3)));
-    let ac = AcQuant(draws::quantizer(draws::draw(key, 4)));
-    let size = draws::size(draws::draw(key, 1));
-    let depth = draws::depth(draws::draw(key, 7));
-    let rule = draws::size(draws::draw(key, 8));
-    answers::code(fwd_transform::quantize_block_rule(coefs, dc, ac, size, depth, rule))
-}
-
-fn coded_by_rule(coefs: &mut [i64], key: u64, digest: u64) -> u64 {
-    draws::fill(coefs, draws::draw(key, 5), draws::draw(key, 6) % 8);
-    let answer = code_by_rule(coefs, key);
-    draws::feed_list(draws::feed(digest, answer as u64), coefs)
-}
-
+// With a rule, which is drawn as a size is: 1 and 2 are good, others are refused.
 pub fn quantize_rule(key: u64, digest: u64) -> u64 {
-    let mut room = room();
-    let count = draws::within(quantizer_lent(draws::draw(key, 2)), &room);
-    coded_by_rule(&mut room[..count], key, digest)
+    let q = Quantizer::drawn(key);
+    let rule = draws::size(draws::draw(key, 8));
+    call(key, digest, quantizer_lent(draws::draw(key, 2)), |coefs| {
+        fwd_transform::quantize_block_rule(coefs, q.dc, q.ac, q.size, q.depth, rule)
+    })
 }
 
 pub fn max_codeable(key: u64, digest: u64) -> u64 {
     let most = quant::max_codeable_coef(draws::depth(draws::draw(key, 7)));
-    draws::feed(digest, draws::bits(most))
+    draws::feed(digest, most.cast_unsigned())
 }

@@ -1,42 +1,121 @@
 // Runs over VBK files: mostly good ones, some cut or with a byte changed.
-ghost use Rattle.std.specs.Prelude.{◌≡◌, ◌≤◌, length};
+use vbk::Run;
 
-// Room for a file: a plane of at most 16 by 16, and records as far as they fit.
-fn room() -> [u8; 8192]
-    ensures { 8192 ≡ length result }
-{
-    [0; 8192]
+// Room for a file: a plane of at most 16 by 16, and records as far as they fit. What is put comes behind what is there.
+#[derive(Drop)]
+struct Room {
+    bytes: [u8; 8192],
+    end: usize,
 }
 
-fn samples() -> [u16; 4096]
-    ensures { 4096 ≡ length result }
-{
-    [0; 4096]
-}
-
-fn answers() -> [u8; 874]
-    ensures { 874 ≡ length result }
-{
-    [0; 874]
-}
-
-// A byte, and the place behind it; nothing where the room ends.
-fn put(file: &mut [u8], at: usize, byte: u64) -> usize {
-    if at < file.len() {
-        file[at] = (byte % 256) as u8;
-        return at + 1;
+impl Room {
+    // Bytes, as far as there is room.
+    fn put(&mut self, bytes: &[u8]) {
+        for byte in bytes {
+            if let Some(place) = self.bytes.get_mut(self.end) {
+                *place = *byte;
+                self.end += 1;
+            }
+        }
     }
-    at
-}
 
-fn put16(file: &mut [u8], at: usize, value: u64) -> usize {
-    let next = put(file, at, value);
-    put(file, next, value / 256)
-}
+    fn put8(&mut self, value: u64) {
+        self.put(&[(value % 256) as u8]);
+    }
 
-fn put32(file: &mut [u8], at: usize, value: u64) -> usize {
-    let next = put16(file, at, value);
-    put16(file, next, value / 65536)
+    fn put16(&mut self, value: u64) {
+        self.put(&((value % 65536) as u16).to_le_bytes());
+    }
+
+    fn put32(&mut self, value: u64) {
+        self.put(&((value % 4294967296) as u32).to_le_bytes());
+    }
+
+    fn put_header(&mut self, depth: u64, width: u64, height: u64) {
+        self.put(b"VBK");
+        self.put16(1);
+        self.put8(depth);
+        self.put16(width);
+        self.put16(height);
+    }
+
+    // The plane's samples.
+    fn put_samples(&mut self, key: u64, count: u64, scale: u64) {
+        for i in 0..count {
+            self.put16(u64::from(draws::sample(draws::draw(key, i), scale)));
+        }
+    }
+
+    fn put_tokens(&mut self, key: u64, count: usize) {
+        let scale = draws::draw(key, 1) % 5;
+        let dense = draws::density(draws::draw(key, 2));
+        for i in 0..count as u64 {
+            let r = draws::draw(key, i.wrapping_add(16));
+            self.put32(draws::number(r, scale, dense).cast_unsigned());
+        }
+    }
+
+    // Place, size, type and lossless byte of a record.
+    fn put_head(&mut self, key: u64, size: u32) {
+        self.put16(draws::draw(key, 2) % 20);
+        self.put16(draws::draw(key, 3) % 20);
+        self.put8(u64::from(size));
+        self.put8(u64::from(draws::tx_type(draws::draw(key, 4), size)));
+        let lossless = draws::lossless(draws::draw(key, 6), size);
+        self.put8(flag(draws::draw(key, 5), lossless));
+    }
+
+    fn put_quantizer(&mut self, r: u64) {
+        self.put16(i64::from(draws::quantizer(r)).cast_unsigned());
+    }
+
+    fn put_record(&mut self, key: u64) {
+        let size = draws::size(draws::draw(key, 1));
+        self.put_head(key, size);
+        self.put_quantizer(draws::draw(key, 7));
+        self.put_quantizer(draws::draw(key, 8));
+        self.put_tokens(draws::draw(key, 9), draws::area(size));
+    }
+
+    // A good file but for what the draws choose.
+    fn put_file(&mut self, key: u64) {
+        let width = side(draws::draw(key, 1));
+        let height = side(draws::draw(key, 2));
+        let depth = u64::from(draws::depth(draws::draw(key, 3)));
+        let count = draws::product(width, height);
+        self.put_header(depth, width, height);
+        self.put_samples(draws::draw(key, 4), count, draws::draw(key, 5) % 4);
+        let records = draws::draw(key, 6);
+        for i in 0..draws::draw(key, 7) % 6 {
+            self.put_record(draws::draw(records, i));
+        }
+    }
+
+    // Once in four a byte of the first 64 is another.
+    fn spoil(&mut self, r: u64) {
+        if r % 4 == 0 {
+            self.bytes[(r / 4 % 64) as usize] = (r / 256 % 256) as u8;
+        }
+    }
+
+    // Once in four the file is cut.
+    fn shorten(&mut self, r: u64) {
+        if r % 4 == 1 {
+            self.end = self.end.min((r / 4 % 8192) as usize);
+        }
+    }
+
+    fn drawn(key: u64) -> Room {
+        let mut room = Room {
+            bytes: [0; 8192],
+            end: 0,
+        };
+        room.put_file(key);
+        let r = draws::draw(key, 8);
+        room.spoil(r);
+        room.shorten(r);
+        room
+    }
 }
 
 // A width or height: 1 to 16, seldom 0 or more than a file may have.
@@ -48,157 +127,44 @@ pub fn side(r: u64) -> u64 {
     }
 }
 
-fn put_header(file: &mut [u8], depth: u64, width: u64, height: u64) -> usize {
-    let mut at = put(file, 0, 86);
-    at = put(file, at, 66);
-    at = put(file, at, 75);
-    at = put16(file, at, 1);
-    at = put(file, at, depth);
-    at = put16(file, at, width);
-    put16(file, at, height)
-}
-
-// The plane's samples.
-fn put_samples(file: &mut [u8], from: usize, key: u64, count: u64, scale: u64) -> usize {
-    let mut at = from;
-    let mut i = 0;
-    while i < count {
-        at = put16(file, at, draws::sample(draws::draw(key, i), scale) as u64);
-        i += 1;
-    }
-    at
-}
-
-fn put_tokens(file: &mut [u8], from: usize, key: u64, count: usize) -> usize
-    requires { count ≤ 1024 }
-{
-    let scale = draws::draw(key, 1) % 5;
-    let dense = draws::density(draws::draw(key, 2));
-    let mut at = from;
-    let mut i = 0;
-    while i < count {
-        at = put32(
-            file,
-            at,
-            draws::bits(draws::number(draws::draw(key, 16 + i as u64), scale, dense)),
-        );
-        i += 1;
-    }
-    at
-}
-
 // A byte that is 0 or 1, seldom more.
 pub fn flag(r: u64, lossless: bool) -> u64 {
     if r % 64 == 0 {
         return r / 64 % 256;
     }
-    if lossless {
-        return 1;
-    }
-    0
-}
-
-// Place, size, type and lossless byte of a record.
-fn put_head(file: &mut [u8], from: usize, key: u64, size: u32) -> usize {
-    let mut at = put16(file, from, draws::draw(key, 2) % 20);
-    at = put16(file, at, draws::draw(key, 3) % 20);
-    at = put(file, at, size as u64);
-    at = put(file, at, draws::tx_type(draws::draw(key, 4), size) as u64);
-    let lossless = draws::lossless(draws::draw(key, 6), size);
-    put(file, at, flag(draws::draw(key, 5), lossless))
-}
-
-fn long(x: i32) -> i64 {
-    x as i64
-}
-
-fn put_quantizer(file: &mut [u8], at: usize, r: u64) -> usize {
-    put16(file, at, draws::bits(long(draws::quantizer(r))))
-}
-
-fn put_record(file: &mut [u8], from: usize, key: u64) -> usize {
-    let size = draws::size(draws::draw(key, 1));
-    let mut at = put_head(file, from, key, size);
-    at = put_quantizer(file, at, draws::draw(key, 7));
-    at = put_quantizer(file, at, draws::draw(key, 8));
-    put_tokens(file, at, draws::draw(key, 9), draws::area(size))
-}
-
-fn put_records(file: &mut [u8], from: usize, key: u64, count: u64) -> usize {
-    let mut at = from;
-    let mut i = 0;
-    while i < count {
-        at = put_record(file, at, draws::draw(key, i));
-        i += 1;
-    }
-    at
-}
-
-// A good file but for what the draws choose, and how long it is.
-fn put_file(file: &mut [u8], key: u64) -> usize {
-    let width = side(draws::draw(key, 1));
-    let height = side(draws::draw(key, 2));
-    let depth = draws::depth(draws::draw(key, 3)) as u64;
-    let count = draws::product(width, height);
-    let scale = draws::draw(key, 5) % 4;
-    let mut at = put_header(file, depth, width, height);
-    at = put_samples(file, at, draws::draw(key, 4), count, scale);
-    put_records(file, at, draws::draw(key, 6), draws::draw(key, 7) % 6)
-}
-
-// Once in four a byte of the first 64 is another.
-fn spoil(file: &mut [u8], r: u64) {
-    let at = (r / 4 % 64) as usize;
-    if r % 4 == 0 {
-        put(file, at, r / 256);
-    }
-}
-
-// Once in four the file is cut.
-fn shortened(count: usize, r: u64) -> usize {
-    let short = (r / 4 % 8192) as usize;
-    if r % 4 == 1 {
-        if short < count {
-            return short;
-        }
-    }
-    count
-}
-
-fn make(file: &mut [u8], key: u64) -> usize {
-    let count = put_file(file, key);
-    let r = draws::draw(key, 8);
-    spoil(file, r);
-    shortened(count, r)
+    u64::from(lossless)
 }
 
 // What a run leaves, and its figures.
-fn feed_run(digest: u64, run: vbk::Run, samples: &[u16], answers: &[u8]) -> u64 {
-    let answer = run.answer;
-    let mut d = draws::feed(digest, answers::code(answer) as u64);
-    let fields = run.fields;
-    d = draws::feed(d, fields.depth as u64);
-    d = draws::feed(d, fields.width as u64);
-    d = draws::feed(d, fields.height as u64);
-    d = draws::feed(d, run.count as u64);
-    d = draws::feed(d, run.touched as u64);
-    draws::feed_bytes(draws::feed_samples(d, samples), answers)
+fn feed_run(digest: u64, run: Run, samples: &[u16], answers: &[u8]) -> u64 {
+    let figures = [
+        u64::from(answers::code(run.answer)),
+        u64::from(run.fields.depth),
+        u64::from(run.fields.width),
+        u64::from(run.fields.height),
+        run.count as u64,
+        run.touched as u64,
+    ];
+    let mut digest = digest;
+    for figure in figures {
+        digest = draws::feed(digest, figure);
+    }
+    draws::feed_list(draws::feed_list(digest, samples), answers)
 }
 
 // The run's figures and rooms, then its text.
 fn ran(file: &[u8], digest: u64) -> u64 {
-    let mut samples = samples();
-    let mut answers = answers();
+    let mut samples = [0u16; 4096];
+    let mut answers = [0u8; 874];
     let mut out = streams::large_buffer();
     let run = vbk::replay(file, &mut samples, &mut answers);
-    let d = feed_run(digest, run, &samples, &answers);
-    let m = vbk::blockrun(file, &mut samples, &mut answers, &mut out);
-    draws::feed_bytes(d, &out[..m])
+    let fed = feed_run(digest, run, &samples, &answers);
+    let length = vbk::blockrun(file, &mut samples, &mut answers, &mut out);
+    draws::feed_list(fed, &out[..length])
 }
 
 pub fn run(key: u64, digest: u64) -> u64 {
-    let mut room = room();
-    let count = make(&mut room, key);
-    let n = draws::within_bytes(count, &room);
-    ran(&room[..n], digest)
+    let room = Room::drawn(key);
+    let count = draws::within(room.end, &room.bytes);
+    ran(&room.bytes[..count], digest)
 }

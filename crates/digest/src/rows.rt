@@ -1,5 +1,5 @@
 // Calls of row_summary with what a summary says of itself, of replace_token and of inverse_transform_2d_rows.
-use crate::drivers::{exponent, lent, room};
+use crate::drivers::{ROOM, exponent, lent};
 use crate::samples::{scale, tokens_lent};
 use quant::{AcQuant, DcQuant};
 use summary::{Row, RowSummary};
@@ -7,15 +7,15 @@ use summary::{Row, RowSummary};
 // A row's number, and all bits set where there is none.
 fn number(row: Row) -> u64 {
     match row {
-        Row::None => 18446744073709551615,
-        Row::At(i) => i as u64,
+        Row::None => u64::MAX,
+        Row::At(i) => u64::from(i),
     }
 }
 
 // The digest after an answer, a summary, and what the summary says of itself.
 fn feed_rows(digest: u64, answer: u32, summary: u32) -> u64 {
-    let a = draws::feed(draws::feed(digest, answer as u64), summary as u64);
-    let b = draws::feed(a, summary::row_count(summary) as u64);
+    let a = draws::feed(draws::feed(digest, u64::from(answer)), u64::from(summary));
+    let b = draws::feed(a, u64::from(summary::row_count(summary)));
     let c = draws::feed(b, number(summary::first_row(summary)));
     draws::feed(c, number(summary::last_row(summary)))
 }
@@ -26,7 +26,11 @@ fn low(r: u64) -> u32 {
 }
 
 // The call on a filled block; under a refusal, a drawn summary.
-fn summed(block: &mut [i64], key: u64, size: u32, digest: u64) -> u64 {
+pub fn row_summary(key: u64, digest: u64) -> u64 {
+    let mut room = [0i64; ROOM];
+    let size = draws::size(draws::draw(key, 1));
+    let count = draws::within(lent(draws::draw(key, 2), size), &room);
+    let block = &mut room[..count];
     draws::fill(block, draws::draw(key, 5), draws::draw(key, 6) % 8);
     match summary::row_summary(block, exponent(size)) {
         RowSummary::Rows(rows) => feed_rows(digest, 0, rows),
@@ -36,29 +40,12 @@ fn summed(block: &mut [i64], key: u64, size: u32, digest: u64) -> u64 {
     }
 }
 
-pub fn row_summary(key: u64, digest: u64) -> u64 {
-    let mut room = room();
-    let size = draws::size(draws::draw(key, 1));
-    let count = draws::within(lent(draws::draw(key, 2), size), &room);
-    summed(&mut room[..count], key, size, digest)
-}
-
-// A place of the block.
-fn inside(r: u64, size: u32) -> usize {
-    match size {
-        1 => (r % 64) as usize,
-        2 => (r % 256) as usize,
-        3 => (r % 1024) as usize,
-        _ => (r % 16) as usize,
-    }
-}
-
 // A place: mostly one of the block.
 fn place(r: u64, size: u32) -> usize {
     match r % 32 {
         0 => (r / 32) as usize,
         1 => (r / 32 % 1025) as usize,
-        _ => inside(r / 32, size),
+        _ => (r / 32) as usize % draws::area(size),
     }
 }
 
@@ -86,10 +73,17 @@ fn summary_lent(r: u64, block: &[i64], size: u32) -> u32 {
     own(block, size)
 }
 
-fn replace(block: &mut [i64], rows: &mut u32, key: u64, size: u32) -> u32 {
-    let a = summary::replace_token(
+// The call on a filled block and a summary.
+pub fn replace_token(key: u64, digest: u64) -> u64 {
+    let mut room = [0i64; ROOM];
+    let size = draws::size(draws::draw(key, 1));
+    let count = draws::within(tokens_lent(draws::draw(key, 2), size), &room);
+    let block = &mut room[..count];
+    draws::fill(block, draws::draw(key, 5), draws::draw(key, 6) % 8);
+    let mut rows = summary_lent(draws::draw(key, 9), block, size);
+    let answer = summary::replace_token(
         block,
-        rows,
+        &mut rows,
         size,
         place(draws::draw(key, 8), size),
         token(draws::draw(key, 10), scale(draws::draw(key, 11))),
@@ -97,40 +91,21 @@ fn replace(block: &mut [i64], rows: &mut u32, key: u64, size: u32) -> u32 {
         AcQuant(draws::quantizer(draws::draw(key, 14))),
         draws::depth(draws::draw(key, 7)),
     );
-    answers::code(a)
-}
-
-// The call on a filled block and a summary.
-fn replaced(block: &mut [i64], key: u64, size: u32, digest: u64) -> u64 {
-    draws::fill(block, draws::draw(key, 5), draws::draw(key, 6) % 8);
-    let mut rows = summary_lent(draws::draw(key, 9), block, size);
-    let answer = replace(block, &mut rows, key, size);
-    let d = draws::feed_list(draws::feed(digest, answer as u64), block);
-    draws::feed(d, rows as u64)
-}
-
-pub fn replace_token(key: u64, digest: u64) -> u64 {
-    let mut room = room();
-    let size = draws::size(draws::draw(key, 1));
-    let count = draws::within(tokens_lent(draws::draw(key, 2), size), &room);
-    replaced(&mut room[..count], key, size, digest)
+    let answered = draws::feed(digest, u64::from(answers::code(answer)));
+    draws::feed(draws::feed_list(answered, block), u64::from(rows))
 }
 
 // The call on a filled block.
-fn driven(block: &mut [i64], key: u64, size: u32, digest: u64) -> u64 {
+pub fn inverse_transform_2d_rows(key: u64, digest: u64) -> u64 {
+    let mut room = [0i64; ROOM];
+    let size = draws::size(draws::draw(key, 1));
+    let count = draws::within(lent(draws::draw(key, 2), size), &room);
+    let block = &mut room[..count];
     draws::fill(block, draws::draw(key, 5), draws::draw(key, 6) % 8);
     let tx_type = draws::tx_type(draws::draw(key, 3), size);
     let lossless = draws::lossless(draws::draw(key, 4), size);
     let driven = idct::inverse_transform_2d_rows(block, exponent(size), tx_type, lossless);
-    let answer = driven.answer;
-    let d = draws::feed(digest, answers::code(answer) as u64);
-    let count = driven.rows;
-    draws::feed_list(draws::feed(d, count.number() as u64), block)
-}
-
-pub fn inverse_transform_2d_rows(key: u64, digest: u64) -> u64 {
-    let mut room = room();
-    let size = draws::size(draws::draw(key, 1));
-    let count = draws::within(lent(draws::draw(key, 2), size), &room);
-    driven(&mut room[..count], key, size, digest)
+    let answered = draws::feed(digest, u64::from(answers::code(driven.answer)));
+    let counted = draws::feed(answered, u64::from(driven.rows.number()));
+    draws::feed_list(counted, block)
 }

@@ -9,67 +9,27 @@ ghost use Rattle.std.specs.Prelude.{◌≡◌, ◌<◌, ◌≤◌, length, take}
 fn stir(x: u64) -> u64 {
     let low = (x % 4294967296) * 2654435761;
     let high = (x / 4294967296) * 2246822519;
-    low ^ (high << 32) ^ (high >> 32)
+    low ^ high.rotate_left(32)
 }
 
 // Number `place` of a key.
 pub fn draw(key: u64, place: u64) -> u64 {
-    let x = std::num::wrapping_add_u64(key, place);
-    stir(stir(stir(x) ^ 11400714819323198485))
+    stir(stir(stir(key.wrapping_add(place)) ^ 11400714819323198485))
 }
 
 // The digest after one number more.
 pub fn feed(digest: u64, x: u64) -> u64 {
-    stir(std::num::wrapping_add_u64(digest, 11400714819323198485) ^ x)
+    stir(digest.wrapping_add(11400714819323198485) ^ x)
 }
 
-// A number with its sign, as the 64 bits that it is stored in.
-pub fn bits(x: i64) -> u64 {
-    if x < 0 {
-        return std::num::wrapping_sub_u64(0, answers::magnitude(x));
+// The digest after a list of numbers: its length, and each as the 64 bits that a number with a sign is stored in.
+pub fn feed_list<T: Copy + Into<i64>>(digest: u64, list: &[T]) -> u64 {
+    let mut digest = feed(digest, list.len() as u64);
+    for x in list {
+        let number: i64 = (*x).into();
+        digest = feed(digest, number.cast_unsigned());
     }
-    answers::magnitude(x)
-}
-
-// The digest after a list of numbers: its length, and each.
-pub fn feed_list(digest: u64, list: &[i64]) -> u64 {
-    let mut d = feed(digest, list.len() as u64);
-    let mut i = 0;
-    while i < list.len() {
-        d = feed(d, bits(list[i]));
-        i += 1;
-    }
-    d
-}
-
-fn wide16(x: u16) -> u64 {
-    x as u64
-}
-
-// The same of samples.
-pub fn feed_samples(digest: u64, list: &[u16]) -> u64 {
-    let mut d = feed(digest, list.len() as u64);
-    let mut i = 0;
-    while i < list.len() {
-        d = feed(d, wide16(list[i]));
-        i += 1;
-    }
-    d
-}
-
-fn wide8(x: u8) -> u64 {
-    x as u64
-}
-
-// The same of bytes.
-pub fn feed_bytes(digest: u64, list: &[u8]) -> u64 {
-    let mut d = feed(digest, list.len() as u64);
-    let mut i = 0;
-    while i < list.len() {
-        d = feed(d, wide8(list[i]));
-        i += 1;
-    }
-    d
+    digest
 }
 
 // A magnitude of a scale: 0 to 7 for small to beyond every limit.
@@ -139,19 +99,29 @@ pub fn edge(r: u64) -> i64 {
     }
 }
 
-// Numbers of one scale and density; once in eight, an edge among the first sixteen.
-pub fn fill(list: &mut [i64], key: u64, scale: u64) {
-    let dense = density(draw(key, 1));
-    let mut i = 0;
-    while i < list.len() {
-        list[i] = number(draw(key, 16 + i as u64), scale, dense);
-        i += 1;
+// Puts what is made of each place there.
+pub fn fill_by<T: Copy, F: Fn(u64) -> T>(list: &mut [T], make: F)
+    requires { F.IsAlwaysCallable make }
+    ensures { length list.new ≡ length list.old }
+{
+    for (place, x) in list.iter_mut().enumerate() {
+        *x = make(place as u64);
     }
+}
+
+// Numbers of one scale and density; once in eight, an edge among the first sixteen.
+pub fn fill(list: &mut [i64], key: u64, scale: u64)
+    ensures { length list.new ≡ length list.old }
+{
+    let dense = density(draw(key, 1));
+    fill_by(
+        list,
+        |place| number(draw(key, place.wrapping_add(16)), scale, dense),
+    );
     let r = draw(key, 2);
-    let at = (r / 8 % 16) as usize;
     if r % 8 == 0 {
-        if at < list.len() {
-            list[at] = edge(r / 128);
+        if let Some(x) = list.get_mut((r / 8 % 16) as usize) {
+            *x = edge(r / 128);
         }
     }
 }
@@ -167,12 +137,10 @@ pub fn sample(r: u64, scale: u64) -> u16 {
 }
 
 // Samples of one number of bits.
-pub fn fill_samples(list: &mut [u16], key: u64, scale: u64) {
-    let mut i = 0;
-    while i < list.len() {
-        list[i] = sample(draw(key, i as u64), scale);
-        i += 1;
-    }
+pub fn fill_samples(list: &mut [u16], key: u64, scale: u64)
+    ensures { length list.new ≡ length list.old }
+{
+    fill_by(list, |place| sample(draw(key, place), scale));
 }
 
 // The product of two numbers below 64.
@@ -194,12 +162,8 @@ pub fn size(r: u64) -> u32 {
     match r % 32 {
         0 => (r / 32 % 8) as u32,
         1 => 4294967295,
-        2 => 3,
-        3 => 3,
-        4 => 2,
-        5 => 2,
-        6 => 2,
-        7 => 2,
+        2 | 3 => 3,
+        4..=7 => 2,
         _ => (r / 32 % 2) as u32,
     }
 }
@@ -230,8 +194,7 @@ pub fn quantizer(r: u64) -> i32 {
         1 => 32768,
         2 => -4,
         3 => 32767,
-        4 => (r / 32 % 32767 + 1) as i32,
-        5 => (r / 32 % 32767 + 1) as i32,
+        4 | 5 => (r / 32 % 32767 + 1) as i32,
         6 => 4,
         7 => 1,
         _ => (r / 32 % 255 + 1) as i32,
@@ -240,7 +203,7 @@ pub fn quantizer(r: u64) -> i32 {
 
 // Numbers in a block of this size number; 16 where there is none.
 pub fn area(size: u32) -> usize
-    ensures { result ≤ 1024 }
+    ensures { (0 < result) × (result ≤ 1024) }
 {
     match size {
         1 => 64,
@@ -251,31 +214,8 @@ pub fn area(size: u32) -> usize
 }
 
 // As much of a list as there is, and at most `count`.
-pub fn within(count: usize, list: &[i64]) -> usize
+pub fn within<T>(count: usize, list: &[T]) -> usize
     ensures { (result ≤ length list.now) × (result ≡ length (take result list.now)) }
 {
-    if count < list.len() {
-        return count;
-    }
-    list.len()
-}
-
-// The same of samples.
-pub fn within_samples(count: usize, list: &[u16]) -> usize
-    ensures { (result ≤ length list.now) × (result ≡ length (take result list.now)) }
-{
-    if count < list.len() {
-        return count;
-    }
-    list.len()
-}
-
-// The same of bytes.
-pub fn within_bytes(count: usize, list: &[u8]) -> usize
-    ensures { (result ≤ length list.now) × (result ≡ length (take result list.now)) }
-{
-    if count < list.len() {
-        return count;
-    }
-    list.len()
+    count.min(list.len())
 }

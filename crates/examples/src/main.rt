@@ -4,15 +4,11 @@
 use std::io::Write;
 use std::rt::{Env, Files};
 
-fn newline<O: Write>(output: &mut O) {
-    streams::write_all(output, &[b'\n']);
-}
-
 fn run_file<R: Files, O: Write, E: Write>(rt: &R, output: &mut O, errors: &mut E, path: &[u8]) {
     match streams::open_read(rt, path) {
         Ok(mut file) => {
             streams::write_all(output, path);
-            newline(output);
+            streams::write_all(output, b"\n");
             vbk_io::run(&mut file, output, errors);
         }
         Err(error) => {
@@ -36,9 +32,7 @@ fn main(rt: HostRuntime) {
     let mut output = rt.stdout();
     let mut errors = rt.stderr();
     let count = streams::arg_count(&rt);
-    let mut i = 1;
-    while i < count {
+    for i in 1..count {
         run_argument(&rt, &mut output, &mut errors, i);
-        i += 1;
     }
 }

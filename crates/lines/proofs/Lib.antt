@@ -1,2 +1,1 @@
 pub mod Negative
-mod Narrow

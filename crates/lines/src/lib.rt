@@ -1,68 +1,20 @@
-// A line of calls (oracle/README.md): decimal numbers with one space between, and lists with runs.
-// A place is an index into the line. Where something else stands than was asked for, the place behind it is BROKEN,
-// and everything read from there on is broken too.
+// A line of calls (oracle/README.md): decimal numbers with one space between, and lists with runs. A `Line` is what is left of one, and
+// each call reads from its front. Where something else stands there than was asked for, the answer is Broken, and what is left of the line
+// then means nothing.
 #![tactic(auto)]
 
-ghost use Rattle.std.specs.Prelude.{◌+◌, ◌≤◌, length};
+ghost use Rattle.std.specs.Prelude.{◌≡◌, ◌↔◌, ◌<◌, ◌≤◌, IsTrue, IfOk, length, []};
 
-// A place past the end of every line.
-pub const BROKEN: usize = 18446744073709551615;
+use std::str::{self, FromStr};
 
-// Digits as a number, and the place behind them.
+// Something else stands in a line than was asked for.
+#[derive(Clone, Copy, PartialEq, Eq, Debug)]
+pub struct Broken;
+
+// What is left of a line.
 #[derive(Clone, Copy)]
-struct Digits {
-    value: u64,
-    next: usize,
-}
-
-// A number with its sign apart, and the place behind it.
-#[derive(Clone, Copy)]
-struct Number {
-    minus: bool,
-    value: u64,
-    next: usize,
-}
-
-// A number of 64 bits without a sign, and the place behind it.
-#[derive(Clone, Copy)]
-pub struct Unsigned {
-    pub value: u64,
-    pub next: usize,
-}
-
-// A number of 32 bits without a sign, and the place behind it.
-#[derive(Clone, Copy)]
-pub struct Unsigned32 {
-    pub value: u32,
-    pub next: usize,
-}
-
-// A number of 8 bits without a sign, and the place behind it.
-#[derive(Clone, Copy)]
-pub struct Unsigned8 {
-    pub value: u8,
-    pub next: usize,
-}
-
-// A number of 64 bits with a sign, and the place behind it.
-#[derive(Clone, Copy)]
-pub struct Signed {
-    pub value: i64,
-    pub next: usize,
-}
-
-// A number of 32 bits with a sign, and the place behind it.
-#[derive(Clone, Copy)]
-pub struct Signed32 {
-    pub value: i32,
-    pub next: usize,
-}
-
-// A 0 or a 1 as a flag, and the place behind it.
-#[derive(Clone, Copy)]
-pub struct Flag {
-    pub value: bool,
-    pub next: usize,
+pub struct Line<'a> {
+    pub rest: &'a [u8],
 }
 
 // So many elements with this value.
@@ -70,414 +22,194 @@ pub struct Flag {
 struct Run {
     count: usize,
     value: i64,
-    next: usize,
 }
 
-// So many elements were stored.
-#[derive(Clone, Copy)]
-pub struct List {
-    pub count: usize,
-    pub next: usize,
-}
-
-fn wide(b: u8) -> u64 {
-    b as u64
-}
-
-// The byte at a place; 0 past the end.
-fn byte_at(line: &[u8], at: usize) -> u64 {
-    if at < line.len() {
-        return wide(line[at]);
-    }
-    0
-}
-
-// The next place.
-fn behind(line: &[u8], at: usize) -> usize {
-    if at < line.len() {
-        return at + 1;
-    }
-    BROKEN
-}
-
-// The value of a digit; 10 for any other byte.
-fn digit(b: u64) -> u64
-    ensures { result ≤ 10 }
+// How long a number's text at the front is: digits, behind a minus sign or not. There may be no digit.
+fn numeral_length(line: &[u8]) -> usize
+    ensures { result ≤ length line.now }
 {
-    if b < 48 {
-        return 10;
-    }
-    if 57 < b {
-        return 10;
-    }
-    b - 48
+    let unsigned = line.strip_prefix(b"-").unwrap_or(line);
+    let behind = unsigned.iter().position(|b| !b.is_ascii_digit());
+    line.len() - unsigned.len() + behind.unwrap_or(unsigned.len())
 }
 
-// All digits from `at` on: at least one, and 64 bits hold the number.
-fn read_digits(line: &[u8], at: usize) -> Digits {
-    let mut i = at;
-    let mut value: u64 = 0;
-    while i < line.len() {
-        let d = digit(wide(line[i]));
-        if 9 < d {
-            break;
-        }
-        if (18446744073709551615 - d) / 10 < value {
-            return Digits {
-                value: 0,
-                next: BROKEN,
-            };
-        }
-        value = value * 10 + d;
-        i += 1;
-    }
-    if i == at {
-        return Digits {
-            value: 0,
-            next: BROKEN,
-        };
-    }
-    Digits {
-        value: value,
-        next: i,
-    }
-}
-
-// The number that begins at `at`.
-fn read_number(line: &[u8], at: usize) -> Number {
-    if byte_at(line, at) == 45 {
-        let d = read_digits(line, behind(line, at));
-        return Number {
-            minus: true,
-            value: d.value,
-            next: d.next,
-        };
-    }
-    let d = read_digits(line, at);
-    Number {
-        minus: false,
-        value: d.value,
-        next: d.next,
-    }
-}
-
-// The number behind the space at `at`.
-fn read_word(line: &[u8], at: usize) -> Number {
-    if byte_at(line, at) == 32 {
-        return read_number(line, behind(line, at));
-    }
-    Number {
-        minus: false,
-        value: 0,
-        next: BROKEN,
-    }
-}
-
-// Broken if the number has a sign.
-fn without_sign(n: Number) -> Unsigned {
-    if n.minus {
-        return Unsigned {
-            value: 0,
-            next: BROKEN,
-        };
-    }
-    Unsigned {
-        value: n.value,
-        next: n.next,
-    }
-}
-
-// Broken if 64 bits do not hold the number with its sign.
-fn with_sign(n: Number) -> Signed {
-    let m = n.value;
-    if n.minus {
-        if m == 0 {
-            return Signed {
-                value: 0,
-                next: n.next,
-            };
-        }
-        if 9223372036854775808 < m {
-            return Signed {
-                value: 0,
-                next: BROKEN,
-            };
-        }
-        // the least number has no counterpart above 0
-        return Signed {
-            value: -((m - 1) as i64) - 1,
-            next: n.next,
-        };
-    }
-    if 9223372036854775807 < m {
-        return Signed {
-            value: 0,
-            next: BROKEN,
-        };
-    }
-    Signed {
-        value: m as i64,
-        next: n.next,
-    }
-}
-
-// The number with which the line begins.
-pub fn read_first(line: &[u8]) -> Unsigned {
-    without_sign(read_number(line, 0))
-}
-
-// The number behind the space at `at`; broken if it has a sign.
-pub fn read_unsigned(line: &[u8], at: usize) -> Unsigned {
-    without_sign(read_word(line, at))
-}
-
-// The same, broken if 32 bits do not hold it.
-pub fn read_unsigned32(line: &[u8], at: usize) -> Unsigned32 {
-    let n = read_unsigned(line, at);
-    let v = n.value;
-    if 4294967295 < v {
-        return Unsigned32 {
-            value: 0,
-            next: BROKEN,
-        };
-    }
-    Unsigned32 {
-        value: v as u32,
-        next: n.next,
-    }
-}
-
-// The same, broken if 8 bits do not hold it.
-pub fn read_unsigned8(line: &[u8], at: usize) -> Unsigned8 {
-    let n = read_unsigned(line, at);
-    let v = n.value;
-    if 255 < v {
-        return Unsigned8 {
-            value: 0,
-            next: BROKEN,
-        };
-    }
-    Unsigned8 {
-        value: v as u8,
-        next: n.next,
-    }
-}
-
-// The same, broken if it is neither 0 nor 1.
-pub fn read_flag(line: &[u8], at: usize) -> Flag {
-    let n = read_unsigned(line, at);
-    let v = n.value;
-    if 1 < v {
-        return Flag {
-            value: false,
-            next: BROKEN,
-        };
-    }
-    Flag {
-        value: v == 1,
-        next: n.next,
-    }
-}
-
-// The number behind the space at `at`, with its sign; broken if 64 bits do not hold it.
-pub fn read_signed(line: &[u8], at: usize) -> Signed {
-    with_sign(read_word(line, at))
-}
-
-// The same, broken if 32 bits do not hold it.
-pub fn read_signed32(line: &[u8], at: usize) -> Signed32 {
-    let n = read_signed(line, at);
-    let v = n.value;
-    if v < -2147483648 {
-        return Signed32 {
-            value: 0,
-            next: BROKEN,
-        };
-    }
-    if 2147483647 < v {
-        return Signed32 {
-            value: 0,
-            next: BROKEN,
-        };
-    }
-    Signed32 {
-        value: v as i32,
-        next: n.next,
-    }
-}
-
-// An element of a list, or a run COUNT*VALUE; a broken one counts nothing.
-fn read_run(line: &[u8], at: usize) -> Run {
-    let n = read_word(line, at);
-    if byte_at(line, n.next) == 42 {
-        let count = without_sign(n);
-        let v = with_sign(read_number(line, behind(line, n.next)));
-        if v.next == BROKEN {
-            return Run {
-                count: 0,
-                value: 0,
-                next: BROKEN,
-            };
-        }
-        return Run {
-            count: count.value as usize,
-            value: v.value,
-            next: v.next,
-        };
-    }
-    let v = with_sign(n);
-    if v.next == BROKEN {
-        return Run {
-            count: 0,
-            value: 0,
-            next: BROKEN,
-        };
-    }
-    Run {
-        count: 1,
-        value: v.value,
-        next: v.next,
-    }
-}
-
-// `count` elements from `from` on become this value.
-fn fill(into: &mut [i64], from: usize, count: usize, value: i64)
-    requires { from + count ≤ length into.old }
+// The number that a text is, if T holds it.
+fn number_of<T: FromStr>(text: &[u8]) -> Result<T, Broken>
+where
+    T::Err: Drop,
 {
-    let mut i = 0;
-    while i < count {
-        into[from + i] = value;
-        i += 1;
+    match str::from_utf8(text) {
+        Ok(text) => text.parse::<T>().map_err(|_| Broken),
+        Err(_) => Err(Broken),
     }
 }
 
-// Stores the list at `at`, as long as there is room.
-pub fn read_list(line: &[u8], at: usize, into: &mut [i64]) -> List
-    ensures { result.count ≤ length into.new }
-{
-    let head = read_unsigned(line, at);
-    let count = head.value as usize;
-    if into.len() < count {
-        return List {
-            count: 0,
-            next: BROKEN,
-        };
+impl<'a> Line<'a> {
+    pub fn new(text: &'a [u8]) -> Self
+        ensures { result.rest.now ≡ text.now }
+    {
+        Line { rest: text }
     }
-    let mut done = 0;
-    let mut next = head.next;
-    while done < count {
-        let r = read_run(line, next);
-        let more = r.count;
-        if more == 0 {
-            return List {
-                count: 0,
-                next: BROKEN,
-            };
-        }
-        if count - done < more {
-            return List {
-                count: 0,
-                next: BROKEN,
-            };
-        }
-        fill(into, done, more, r.value);
-        done += more;
-        next = r.next;
-    }
-    List {
-        count: count,
-        next: next,
-    }
-}
 
-// The list at `at` has exactly the length of `into`; it is stored, and the place behind it handed back.
-pub fn read_whole_list(line: &[u8], at: usize, into: &mut [i64]) -> usize {
-    let l = read_list(line, at, into);
-    if l.count == into.len() {
-        return l.next;
+    // Whether all of it was read.
+    pub fn is_empty(&self) -> bool
+        ensures { IsTrue result ↔ (self.now.rest.now ≡ []) }
+    {
+        self.rest.is_empty()
     }
-    BROKEN
-}
 
-// `count` elements from `from` on have this value.
-fn all_are(found: &[i64], from: usize, count: usize, value: i64) -> bool
-    requires { from + count ≤ length found.now }
-{
-    let mut i = 0;
-    while i < count {
-        let x = found[from + i];
-        if x != value {
-            return false;
-        }
-        i += 1;
+    // The byte at the front is this one.
+    fn skip(&mut self, byte: u8) -> Result<(), Broken> {
+        self.rest = self.rest.strip_prefix(&[byte]).ok_or(Broken)?;
+        Ok(())
     }
-    true
-}
 
-// All elements from `from` on have this value.
-pub fn rest_is(found: &[i64], from: usize, value: i64) -> bool {
-    if found.len() < from {
-        return true;
+    // The text of a number at the front.
+    fn numeral(&mut self) -> &'a [u8] {
+        let (numeral, behind) = self.rest.split_at(numeral_length(self.rest));
+        self.rest = behind;
+        numeral
     }
-    all_are(found, from, found.len() - from, value)
-}
 
-// The place behind the number at `at`, if it is this one.
-pub fn same(line: &[u8], at: usize, found: i64) -> usize {
-    let n = read_signed(line, at);
-    if n.value == found {
-        return n.next;
+    // The number with which the line begins, if T holds it.
+    pub fn first<T: FromStr>(&mut self) -> Result<T, Broken>
+    where
+        T::Err: Drop,
+    {
+        number_of(self.numeral())
     }
-    BROKEN
-}
 
-// The same of a number without a sign.
-pub fn same_unsigned(line: &[u8], at: usize, found: u64) -> usize {
-    let n = read_unsigned(line, at);
-    if n.value == found {
-        return n.next;
+    // The number behind a space, if T holds it.
+    pub fn number<T: FromStr>(&mut self) -> Result<T, Broken>
+    where
+        T::Err: Drop,
+    {
+        self.skip(b' ')?;
+        self.first()
     }
-    BROKEN
-}
 
-// The place behind the list at `at`, if it is this one.
-pub fn same_list(line: &[u8], at: usize, found: &[i64]) -> usize {
-    let head = read_unsigned(line, at);
-    let count = head.value as usize;
-    if count != found.len() {
-        return BROKEN;
+    // A 0 or a 1 as a flag.
+    pub fn flag(&mut self) -> Result<bool, Broken> {
+        match self.number::<u64>()? {
+            0 => Ok(false),
+            1 => Ok(true),
+            _ => Err(Broken),
+        }
     }
-    let mut done = 0;
-    let mut next = head.next;
-    while done < count {
-        let r = read_run(line, next);
-        let more = r.count;
-        if more == 0 {
-            return BROKEN;
-        }
-        if count - done < more {
-            return BROKEN;
-        }
-        if !all_are(found, done, more, r.value) {
-            return BROKEN;
-        }
-        done += more;
-        next = r.next;
-    }
-    next
-}
 
-// The same, where a length of -1 stands for the list at `lent`: nothing was changed.
-pub fn same_lent(line: &[u8], at: usize, lent: usize, found: &[i64]) -> usize {
-    let head = read_word(line, at);
-    if head.minus {
-        if head.value != 1 {
-            return BROKEN;
+    // An element of a list, or a run COUNT*VALUE.
+    fn run(&mut self) -> Result<Run, Broken>
+        ensures { IfOk result (λ run. 0 < run.count) }
+    {
+        self.skip(b' ')?;
+        let numeral = self.numeral();
+        if self.skip(b'*').is_err() {
+            return Ok(Run {
+                count: 1,
+                value: number_of(numeral)?,
+            });
         }
-        if same_list(line, lent, found) == BROKEN {
-            return BROKEN;
+        let count = number_of(numeral)?;
+        if count == 0 {
+            return Err(Broken);
         }
-        return head.next;
+        Ok(Run {
+            count,
+            value: self.first()?,
+        })
     }
-    same_list(line, at, found)
+
+    // A list, to the front of `into` if there is room and T holds its elements; how many they are.
+    pub fn list<T: Copy + TryFrom<i64>>(&mut self, into: &mut [T]) -> Result<usize, Broken>
+    where
+        T::Error: Drop,
+        ensures { IfOk result (λ count. count ≤ length into.new) }
+    {
+        self.list_by(into, |x| T::try_from(x).map_err(|_| Broken))
+    }
+
+    // The same, by what an element is made into.
+    pub fn list_by<T: Copy, F: Fn(i64) -> Result<T, Broken>>(
+        &mut self,
+        into: &mut [T],
+        make: F,
+    ) -> Result<usize, Broken>
+        requires { F.IsAlwaysCallable make }
+        ensures { IfOk result (λ count. count ≤ length into.new) }
+    {
+        let count = self.number::<usize>()?;
+        if into.len() < count {
+            return Err(Broken);
+        }
+        let mut done = 0;
+        // a turn stores a run, of as many elements as the line says
+        while done < count {
+            let run = self.run()?;
+            let value = make(run.value)?;
+            if count - done < run.count {
+                return Err(Broken);
+            }
+            for element in &mut into[done..done + run.count] {
+                *element = value;
+            }
+            done += run.count;
+        }
+        Ok(count)
+    }
+
+    // A list of exactly the length of `into`.
+    pub fn whole_list<T: Copy + TryFrom<i64>>(&mut self, into: &mut [T]) -> Result<(), Broken>
+    where
+        T::Error: Drop,
+    {
+        if self.list(into)? == into.len() {
+            return Ok(());
+        }
+        Err(Broken)
+    }
+
+    // This number.
+    pub fn same<T: FromStr + PartialEq + Drop>(&mut self, found: T) -> Result<(), Broken>
+    where
+        T::Err: Drop,
+    {
+        if self.number::<T>()? == found {
+            return Ok(());
+        }
+        Err(Broken)
+    }
+
+    // This list.
+    pub fn same_list<T: Copy + Into<i64>>(&mut self, found: &[T]) -> Result<(), Broken> {
+        if self.number::<usize>()? != found.len() {
+            return Err(Broken);
+        }
+        let mut left = found;
+        // a turn compares a run, of as many elements as the line says
+        while !left.is_empty() {
+            let run = self.run()?;
+            let (front, behind) = left.split_at_checked(run.count).ok_or(Broken)?;
+            let value = run.value;
+            if !front.iter().all(|x| (*x).into() == value) {
+                return Err(Broken);
+            }
+            left = behind;
+        }
+        Ok(())
+    }
+
+    // The same, where a length of -1 stands for the lent list: nothing was changed.
+    pub fn same_lent<T: Copy + Into<i64>>(
+        &mut self,
+        mut lent: Line,
+        found: &[T],
+    ) -> Result<(), Broken> {
+        let mut behind = *self;
+        if behind.number::<i64>()? != -1 {
+            return self.same_list(found);
+        }
+        lent.same_list(found)?;
+        *self = behind;
+        Ok(())
+    }
 }

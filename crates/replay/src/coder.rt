@@ -3,8 +3,9 @@ ghost use Rattle.std.specs.Prelude.{true, false, ◌≡◌, ◌^◌, ◌≤◌, 
 ghost use Rattle.answers.specs.Bad.{bad_quantizer};
 ghost use Rattle.answers.specs.Limits.{codeable};
 
-use crate::verdict::{Verdict, answered, outside, reached};
+use crate::verdict::{Stop, answered};
 use answers::magnitude;
+use lines::Line;
 use quant::{AcQuant, DcQuant};
 
 // 2^31: what one number's quantizer takes.
@@ -14,72 +15,56 @@ const COEF: u64 = 2147483648;
 const MOST: u64 = 262210;
 
 // Kind 23: the block.
-pub fn forward_wht_2d(line: &[u8], at: usize, numbers: &mut [i64]) -> Verdict {
-    let l = lines::read_list(line, at, numbers);
-    let count = l.count;
-    let answer = fwd_transform::forward_wht_2d(&mut numbers[0..count]);
-    answered(line, l.next, answer, at, &numbers[0..count])
+pub fn forward_wht_2d(line: &mut Line, numbers: &mut [i64]) -> Result<(), Stop> {
+    let lent = *line;
+    let count = line.list(numbers)?;
+    let block = &mut numbers[..count];
+    let answer = fwd_transform::forward_wht_2d(block);
+    answered(line, answer, lent, block)
 }
 
 // Kind 24: the two quantizers, size, depth and the coefficients.
-pub fn quantize_block_tx(line: &[u8], at: usize, numbers: &mut [i64]) -> Verdict {
-    let dc = lines::read_signed32(line, at);
-    let ac = lines::read_signed32(line, dc.next);
-    let size = lines::read_unsigned32(line, ac.next);
-    let depth = lines::read_unsigned32(line, size.next);
-    let l = lines::read_list(line, depth.next, numbers);
-    let count = l.count;
-    let answer = fwd_transform::quantize_block_tx(
-        &mut numbers[0..count],
-        DcQuant(dc.value),
-        AcQuant(ac.value),
-        size.value,
-        depth.value,
-    );
-    answered(line, l.next, answer, depth.next, &numbers[0..count])
+pub fn quantize_block_tx(line: &mut Line, numbers: &mut [i64]) -> Result<(), Stop> {
+    let dc = DcQuant(line.number()?);
+    let ac = AcQuant(line.number()?);
+    let size = line.number()?;
+    let depth = line.number()?;
+    let lent = *line;
+    let count = line.list(numbers)?;
+    let coefs = &mut numbers[..count];
+    let answer = fwd_transform::quantize_block_tx(coefs, dc, ac, size, depth);
+    answered(line, answer, lent, coefs)
 }
 
 // Kind 25: the two quantizers and the coefficients.
-pub fn quantize_block(line: &[u8], at: usize, numbers: &mut [i64]) -> Verdict {
-    let dc = lines::read_signed32(line, at);
-    let ac = lines::read_signed32(line, dc.next);
-    let l = lines::read_list(line, ac.next, numbers);
-    let count = l.count;
-    let answer = fwd_transform::quantize_block(
-        &mut numbers[0..count],
-        DcQuant(dc.value),
-        AcQuant(ac.value),
-    );
-    answered(line, l.next, answer, ac.next, &numbers[0..count])
+pub fn quantize_block(line: &mut Line, numbers: &mut [i64]) -> Result<(), Stop> {
+    let dc = DcQuant(line.number()?);
+    let ac = AcQuant(line.number()?);
+    let lent = *line;
+    let count = line.list(numbers)?;
+    let coefs = &mut numbers[..count];
+    let answer = fwd_transform::quantize_block(coefs, dc, ac);
+    answered(line, answer, lent, coefs)
 }
 
 // Kind 39: the two quantizers, size, depth, rule and the coefficients.
-pub fn quantize_block_rule(line: &[u8], at: usize, numbers: &mut [i64]) -> Verdict {
-    let dc = lines::read_signed32(line, at);
-    let ac = lines::read_signed32(line, dc.next);
-    let size = lines::read_unsigned32(line, ac.next);
-    let depth = lines::read_unsigned32(line, size.next);
-    let rule = lines::read_unsigned32(line, depth.next);
-    let l = lines::read_list(line, rule.next, numbers);
-    let count = l.count;
-    let answer = fwd_transform::quantize_block_rule(
-        &mut numbers[0..count],
-        DcQuant(dc.value),
-        AcQuant(ac.value),
-        size.value,
-        depth.value,
-        rule.value,
-    );
-    answered(line, l.next, answer, rule.next, &numbers[0..count])
+pub fn quantize_block_rule(line: &mut Line, numbers: &mut [i64]) -> Result<(), Stop> {
+    let dc = DcQuant(line.number()?);
+    let ac = AcQuant(line.number()?);
+    let size = line.number()?;
+    let depth = line.number()?;
+    let rule = line.number()?;
+    let lent = *line;
+    let count = line.list(numbers)?;
+    let coefs = &mut numbers[..count];
+    let answer = fwd_transform::quantize_block_rule(coefs, dc, ac, size, depth, rule);
+    answered(line, answer, lent, coefs)
 }
 
 // Kind 26: the depth.
-pub fn max_codeable_coef(line: &[u8], at: usize) -> Verdict {
-    let depth = lines::read_unsigned32(line, at);
-    reached(
-        line,
-        lines::same(line, depth.next, quant::max_codeable_coef(depth.value)),
-    )
+pub fn max_codeable_coef(line: &mut Line) -> Result<(), Stop> {
+    let depth = line.number()?;
+    Ok(line.same(quant::max_codeable_coef(depth))?)
 }
 
 // What the quantizer of one number requires.
@@ -96,15 +81,14 @@ fn quantizable(coef: i64, ac: AcQuant, most: u64) -> bool
 }
 
 // Kind 36: a coefficient, its quantizer, the size and the limit of a token.
-pub fn quantize(line: &[u8], at: usize) -> Verdict {
-    let coef = lines::read_signed(line, at);
-    let q = lines::read_signed32(line, coef.next);
-    let size = lines::read_unsigned32(line, q.next);
-    let most = lines::read_unsigned(line, size.next);
-    let ac = AcQuant(q.value);
-    if quantizable(coef.value, ac, most.value) {
-        let token = ac.quantize(coef.value, size.value, most.value, 1);
-        return reached(line, lines::same(line, most.next, token));
+pub fn quantize(line: &mut Line) -> Result<(), Stop> {
+    let coef = line.number()?;
+    let ac = AcQuant(line.number()?);
+    let size = line.number()?;
+    let most = line.number()?;
+    if quantizable(coef, ac, most) {
+        let token = ac.quantize(coef, size, most, 1);
+        return Ok(line.same(token)?);
     }
-    outside(most.next)
+    Err(Stop::Outside)
 }

@@ -1,38 +1,18 @@
 // A reader, which is standard input, line by line through a buffer. What waits in it stands from `from` to `end`.
-ghost use Rattle.std.specs.Prelude.{◌+◌, ◌≤◌, length};
+ghost use Rattle.std.specs.Prelude.{◌<◌, ◌≤◌, length};
 
-use crate::kinds::verdict;
-use crate::tally;
-use crate::verdict::Verdict;
+use crate::kinds;
+use crate::tally::{Counts, KINDS};
+use lines::Line;
 use std::io::Read;
-
-// The place of the next line's end; `end` where it is not there yet.
-fn line_end(buf: &[u8], from: usize, end: usize) -> usize
-    requires { (from ≤ end) × (end ≤ length buf.now) }
-    ensures { (from ≤ result) × (result ≤ end) }
-{
-    let mut i = from;
-    while i < end {
-        if buf[i] == b'\n' {
-            return i;
-        }
-        i += 1;
-    }
-    end
-}
 
 // Moves what waits to the front; how much that is.
 fn to_front(buf: &mut [u8], from: usize, end: usize) -> usize
     requires { (from ≤ end) × (end ≤ length buf.old) }
     ensures { result ≤ length buf.new }
 {
-    let count = end - from;
-    let mut i = 0;
-    while i < count {
-        buf[i] = buf[from + i];
-        i += 1;
-    }
-    count
+    buf[..end].rotate_left(from);
+    end - from
 }
 
 // Reads as much as there is room for behind `from`; the end of what is there then.
@@ -44,26 +24,24 @@ fn read_behind<I: Read>(input: &mut I, buf: &mut [u8], from: usize) -> usize
     from + n
 }
 
+// The kind of a call's line; 0, which no call has, where it has no counts of its own.
+fn kind_of(line: &mut Line) -> usize
+    ensures { result < 64 }
+{
+    match line.first::<usize>() {
+        Ok(kind) if kind < KINDS => kind,
+        _ => 0,
+    }
+}
+
 // Line `number`: a comment, nothing, or a call.
-fn one_line(line: &[u8], number: u64, numbers: &mut [i64], counts: &mut [u64; 256]) {
-    if line.len() == 0 {
+fn one_line(text: &[u8], number: u64, numbers: &mut [i64], counts: &mut [Counts; KINDS]) {
+    if text.is_empty() || text.starts_with(b"#") {
         return;
     }
-    if line[0] == b'#' {
-        return;
-    }
-    let head = lines::read_first(line);
-    let kind = head.value as usize;
-    if 63 < kind {
-        tally::add(counts, 0, Verdict::Skipped, number);
-        return;
-    }
-    tally::add(
-        counts,
-        kind,
-        verdict(kind, line, head.next, numbers),
-        number,
-    );
+    let mut line = Line::new(text);
+    let kind = kind_of(&mut line);
+    counts[kind].add(kinds::verdict(kind, &mut line, numbers), number);
 }
 
 // All lines; false where one is longer than the buffer.
@@ -71,32 +49,32 @@ pub fn each_line<I: Read>(
     input: &mut I,
     buf: &mut [u8],
     numbers: &mut [i64],
-    counts: &mut [u64; 256],
+    counts: &mut [Counts; KINDS],
 ) -> bool {
     let mut from = 0;
     let mut end = 0;
-    let mut number: u64 = 0;
+    let mut number = 0u64;
     // a proved loop has to end, and nothing says that the input does
-    let mut turns = 18446744073709551615u64;
-    while 0 < turns {
-        turns -= 1;
-        let stop = line_end(buf, from, end);
-        if stop < end {
-            number += 1;
-            one_line(&buf[from..stop], number, numbers, counts);
-            from = stop + 1;
-        } else {
-            let kept = to_front(buf, from, end);
-            if kept == buf.len() {
-                return false;
-            }
-            from = 0;
-            end = read_behind(input, buf, kept);
-            if end == kept {
-                // the last line may have no end
+    for turn in 0..u64::MAX {
+        match buf[from..end].iter().position(|b| *b == b'\n') {
+            Some(length) => {
                 number += 1;
-                one_line(&buf[0..end], number, numbers, counts);
-                return true;
+                one_line(&buf[from..from + length], number, numbers, counts);
+                from += length + 1;
+            }
+            None => {
+                let kept = to_front(buf, from, end);
+                if kept == buf.len() {
+                    return false;
+                }
+                from = 0;
+                end = read_behind(input, buf, kept);
+                if end == kept {
+                    // the last line may have no end
+                    number += 1;
+                    one_line(&buf[..end], number, numbers, counts);
+                    return true;
+                }
             }
         }
     }

@@ -1,8 +1,6 @@
 // The Rust's answers against our calls: lines of oracle/README.md on standard input, one line of counts for each kind.
 #![tactic(auto)]
 
-ghost use Rattle.std.specs.Prelude.{◌≡◌, length};
-
 mod coder;
 mod drivers;
 mod feed;
@@ -12,20 +10,17 @@ mod rows;
 mod tally;
 mod verdict;
 
-// Room for the longest list.
-fn room() -> [i64; 65536]
-    ensures { 65536 ≡ length result }
-{
-    [0; 65536]
-}
+use tally::{Counts, KINDS};
 
 fn main(rt: HostRuntime) {
     let mut output = rt.stdout();
-    let mut counts = tally::none();
-    let mut numbers = room();
+    let mut counts = [Counts::NONE; KINDS];
+    // room for the longest list
+    let mut numbers = [0i64; 65536];
     let mut buffer = streams::large_buffer();
     let all = feed::each_line(&mut rt.stdin(), &mut buffer, &mut numbers, &mut counts);
-    tally::print(&mut output, &counts);
+    // counts that cannot be written are seen to be missing by who reads them
+    let _ = tally::print(&mut output, &counts);
     if !all {
         streams::write_all(&mut output, b"a line is too long\n");
     }

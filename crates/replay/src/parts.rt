@@ -2,8 +2,9 @@
 ghost use Rattle.std.specs.Prelude.{true, ◌≡◌, ◌<◌, pos, get_or};
 ghost use Rattle.whole.specs.Within.{Within};
 
-use crate::verdict::{Verdict, outside, reached, same_s, same_t};
+use crate::verdict::Stop;
 use answers::magnitude;
+use lines::Line;
 
 // 2^46: operands of B, H and SB.
 const LEAF: u64 = 70368744177664;
@@ -15,55 +16,36 @@ const WIDE: u64 = 2305843009213693952;
 const ROUNDED: u64 = 4611686018427387904;
 
 // Kind 1.
-pub fn round2(line: &[u8], at: usize) -> Verdict {
-    let x = lines::read_signed(line, at);
-    let k = lines::read_unsigned32(line, x.next);
-    let bits = k.value;
-    if bits < 1 {
-        return outside(k.next);
+pub fn round2(line: &mut Line) -> Result<(), Stop> {
+    let x = line.number::<i64>()?;
+    let bits = line.number::<u32>()?;
+    let size = magnitude(x);
+    if bits < 1 || 30 < bits || ROUNDED < size {
+        return Err(Stop::Outside);
     }
-    if 30 < bits {
-        return outside(k.next);
-    }
-    if ROUNDED < magnitude(x.value) {
-        return outside(k.next);
-    }
-    reached(
-        line,
-        lines::same(line, k.next, primitives::round2(x.value, bits)),
-    )
+    Ok(line.same(primitives::round2(x, bits))?)
 }
 
 // Kind 2.
-pub fn brev(line: &[u8], at: usize) -> Verdict {
-    let bits = lines::read_unsigned32(line, at);
-    let x = lines::read_unsigned(line, bits.next);
-    let n = bits.value;
-    if 5 < n {
-        return outside(x.next);
+pub fn brev(line: &mut Line) -> Result<(), Stop> {
+    let bits = line.number::<u32>()?;
+    let x = line.number::<usize>()?;
+    if 5 < bits {
+        return Err(Stop::Outside);
     }
-    reached(
-        line,
-        lines::same_unsigned(line, x.next, primitives::brev(n, x.value as usize) as u64),
-    )
+    Ok(line.same(primitives::brev(bits, x))?)
 }
 
 // Kind 3.
-pub fn cos64(line: &[u8], at: usize) -> Verdict {
-    let angle = lines::read_signed32(line, at);
-    reached(
-        line,
-        lines::same(line, angle.next, primitives::cos64(angle.value)),
-    )
+pub fn cos64(line: &mut Line) -> Result<(), Stop> {
+    let angle = line.number()?;
+    Ok(line.same(primitives::cos64(angle))?)
 }
 
 // Kind 4.
-pub fn sin64(line: &[u8], at: usize) -> Verdict {
-    let angle = lines::read_signed32(line, at);
-    reached(
-        line,
-        lines::same(line, angle.next, primitives::sin64(angle.value)),
-    )
+pub fn sin64(line: &mut Line) -> Result<(), Stop> {
+    let angle = line.number()?;
+    Ok(line.same(primitives::sin64(angle))?)
 }
 
 // Place k lies below `count`, and the number there within `most`.
@@ -92,70 +74,66 @@ fn both_near(list: &[i64], count: usize, a: usize, b: usize, most: u64) -> bool
 }
 
 // Kind 5: B on T.
-pub fn butterfly(line: &[u8], at: usize) -> Verdict {
-    let a = lines::read_unsigned(line, at);
-    let b = lines::read_unsigned(line, a.next);
-    let angle = lines::read_signed32(line, b.next);
-    let flip = lines::read_flag(line, angle.next);
+pub fn butterfly(line: &mut Line) -> Result<(), Stop> {
+    let a = line.number()?;
+    let b = line.number()?;
+    let angle = line.number()?;
+    let flip = line.flag()?;
+    let lent = *line;
     let mut t = [0i64; 32];
-    let next = lines::read_whole_list(line, flip.next, &mut t);
-    let p = a.value as usize;
-    let q = b.value as usize;
-    if both_near(&t, 32, p, q, LEAF) {
-        primitives::butterfly(&mut t, p, q, angle.value, flip.value);
-        return same_t(line, next, flip.next, &t);
+    line.whole_list(&mut t)?;
+    if both_near(&t, 32, a, b, LEAF) {
+        primitives::butterfly(&mut t, a, b, angle, flip);
+        return Ok(line.same_lent(lent, &t)?);
     }
-    outside(next)
+    Err(Stop::Outside)
 }
 
 // Kind 6: H on T.
-pub fn hadamard(line: &[u8], at: usize) -> Verdict {
-    let a = lines::read_unsigned(line, at);
-    let b = lines::read_unsigned(line, a.next);
-    let flip = lines::read_flag(line, b.next);
+pub fn hadamard(line: &mut Line) -> Result<(), Stop> {
+    let a = line.number()?;
+    let b = line.number()?;
+    let flip = line.flag()?;
+    let lent = *line;
     let mut t = [0i64; 32];
-    let next = lines::read_whole_list(line, flip.next, &mut t);
-    let p = a.value as usize;
-    let q = b.value as usize;
-    if both_near(&t, 32, p, q, LEAF) {
-        primitives::hadamard(&mut t, p, q, flip.value);
-        return same_t(line, next, flip.next, &t);
+    line.whole_list(&mut t)?;
+    if both_near(&t, 32, a, b, LEAF) {
+        primitives::hadamard(&mut t, a, b, flip);
+        return Ok(line.same_lent(lent, &t)?);
     }
-    outside(next)
+    Err(Stop::Outside)
 }
 
-// Kind 7: SB from T into S.
-pub fn sb(line: &[u8], at: usize) -> Verdict {
-    let a = lines::read_unsigned(line, at);
-    let b = lines::read_unsigned(line, a.next);
-    let angle = lines::read_signed32(line, b.next);
-    let flip = lines::read_flag(line, angle.next);
+// Kind 7: SB from T, of which the first half counts, into S.
+pub fn sb(line: &mut Line) -> Result<(), Stop> {
+    let a = line.number()?;
+    let b = line.number()?;
+    let angle = line.number()?;
+    let flip = line.flag()?;
     let mut t = [0i64; 32];
+    line.whole_list(&mut t)?;
+    let lent = *line;
     let mut s = [0i64; 16];
-    let behind = lines::read_whole_list(line, flip.next, &mut t);
-    let next = lines::read_whole_list(line, behind, &mut s);
-    let p = a.value as usize;
-    let q = b.value as usize;
-    if both_near(&t, 16, p, q, LEAF) {
-        primitives::sb(&t, &mut s, p, q, angle.value, flip.value);
-        return same_s(line, next, behind, &s);
+    line.whole_list(&mut s)?;
+    if both_near(&t, 16, a, b, LEAF) {
+        primitives::sb(&t, &mut s, a, b, angle, flip);
+        return Ok(line.same_lent(lent, &s)?);
     }
-    outside(next)
+    Err(Stop::Outside)
 }
 
 // Kind 8: SH from S into T.
-pub fn sh(line: &[u8], at: usize) -> Verdict {
-    let a = lines::read_unsigned(line, at);
-    let b = lines::read_unsigned(line, a.next);
+pub fn sh(line: &mut Line) -> Result<(), Stop> {
+    let a = line.number()?;
+    let b = line.number()?;
+    let lent = *line;
     let mut t = [0i64; 32];
+    line.whole_list(&mut t)?;
     let mut s = [0i64; 16];
-    let behind = lines::read_whole_list(line, b.next, &mut t);
-    let next = lines::read_whole_list(line, behind, &mut s);
-    let p = a.value as usize;
-    let q = b.value as usize;
-    if both_near(&s, 16, p, q, WIDE) {
-        primitives::sh(&mut t, &s, p, q);
-        return same_t(line, next, b.next, &t);
+    line.whole_list(&mut s)?;
+    if both_near(&s, 16, a, b, WIDE) {
+        primitives::sh(&mut t, &s, a, b);
+        return Ok(line.same_lent(lent, &t)?);
     }
-    outside(next)
+    Err(Stop::Outside)
 }

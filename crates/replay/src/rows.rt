@@ -2,8 +2,9 @@
 ghost use Rattle.std.specs.Prelude.{true, ◌≡◌, ℕ, ◌<◌, pos, get_or};
 ghost use Rattle.whole.specs.Within.{Within};
 
-use crate::verdict::{Verdict, outside, same_row4, same_t};
+use crate::verdict::Stop;
 use answers::any_beyond;
+use lines::Line;
 
 // 2^31: a DCT or ADST row.
 const ROW: u64 = 2147483648;
@@ -25,61 +26,53 @@ fn all_near(list: &[i64], count: usize, most: u64) -> bool
 }
 
 // Kind 10: one row through the recursive DCT.
-pub fn inverse_dct(line: &[u8], at: usize) -> Verdict {
-    let n = lines::read_unsigned32(line, at);
+pub fn inverse_dct(line: &mut Line) -> Result<(), Stop> {
+    let bits = line.number::<u32>()?;
+    let lent = *line;
     let mut t = [0i64; 32];
-    let next = lines::read_whole_list(line, n.next, &mut t);
-    let bits = n.value;
-    if bits < 2 {
-        return outside(next);
-    }
-    if 5 < bits {
-        return outside(next);
+    line.whole_list(&mut t)?;
+    if bits < 2 || 5 < bits {
+        return Err(Stop::Outside);
     }
     if all_near(&t, 32, ROW) {
         dct::idct_permute(&mut t, bits);
         let r = dct::inverse_dct(t, bits);
-        return same_t(line, next, n.next, &r);
+        return Ok(line.same_lent(lent, &r)?);
     }
-    outside(next)
+    Err(Stop::Outside)
 }
 
 // Kind 11: one row through the ADST.
-pub fn inverse_adst(line: &[u8], at: usize) -> Verdict {
-    let n = lines::read_unsigned32(line, at);
+pub fn inverse_adst(line: &mut Line) -> Result<(), Stop> {
+    let bits = line.number::<u32>()?;
+    let lent = *line;
     let mut t = [0i64; 32];
-    let next = lines::read_whole_list(line, n.next, &mut t);
-    let bits = n.value;
-    if bits < 2 {
-        return outside(next);
-    }
-    if 4 < bits {
-        return outside(next);
+    line.whole_list(&mut t)?;
+    if bits < 2 || 4 < bits {
+        return Err(Stop::Outside);
     }
     if all_near(&t, 32, ROW) {
         adst::inverse_adst(&mut t, bits);
-        return same_t(line, next, n.next, &t);
+        return Ok(line.same_lent(lent, &t)?);
     }
-    outside(next)
+    Err(Stop::Outside)
 }
 
 // Kind 12: four numbers through the WHT.
-pub fn inverse_wht(line: &[u8], at: usize) -> Verdict {
-    let shift = lines::read_unsigned32(line, at);
-    let mut row = [0i64; 4];
-    let next = lines::read_whole_list(line, shift.next, &mut row);
+pub fn inverse_wht(line: &mut Line) -> Result<(), Stop> {
+    let bits = line.number::<u32>()?;
+    let lent = *line;
     let mut t = [MARK; 32];
-    t[0] = row[0];
-    t[1] = row[1];
-    t[2] = row[2];
-    t[3] = row[3];
-    let bits = shift.value;
+    line.whole_list(&mut t[..4])?;
     if 2 < bits {
-        return outside(next);
+        return Err(Stop::Outside);
     }
     if all_near(&t, 4, LEAF) {
         wht::inverse_wht(&mut t, bits);
-        return same_row4(line, next, shift.next, &t, MARK);
+        if t[4..].iter().any(|x| *x != MARK) {
+            return Err(Stop::Broken);
+        }
+        return Ok(line.same_lent(lent, &t[..4])?);
     }
-    outside(next)
+    Err(Stop::Outside)
 }

@@ -1,79 +1,60 @@
-// Four counts for each kind below 64: lines that are the same, that differ, that were skipped, and the first that differs.
-ghost use Rattle.std.specs.Prelude.{◌<◌};
-
+// Counts of a kind's lines: those that are the same, that differ, that were skipped, and the first that differs.
 use crate::verdict::Verdict;
-use std::io::Write;
+use std::fmt;
+use std::io::{self, Write};
 
-const SAME: usize = 0;
+// Kinds that have counts of their own.
+pub const KINDS: usize = 64;
 
-const DIFFER: usize = 1;
-
-const SKIPPED: usize = 2;
-
-const FIRST: usize = 3;
-
-// No line yet.
-pub fn none() -> [u64; 256] {
-    [0; 256]
+#[derive(Clone, Copy, PartialEq, Eq)]
+pub struct Counts {
+    same: u64,
+    differ: u64,
+    skipped: u64,
+    first: Option<u64>,
 }
 
-fn more(counts: &mut [u64; 256], i: usize)
-    requires { i < 256 }
-{
-    let n = counts[i];
-    if n < 18446744073709551615 {
-        counts[i] = n + 1;
-    }
-}
+impl Counts {
+    // No line yet.
+    pub const NONE: Counts = Counts {
+        same: 0,
+        differ: 0,
+        skipped: 0,
+        first: None,
+    };
 
-// Counts line `number`, of this kind.
-pub fn add(counts: &mut [u64; 256], kind: usize, v: Verdict, number: u64)
-    requires { kind < 64 }
-{
-    match v {
-        Verdict::Same => more(counts, kind * 4 + SAME),
-        Verdict::Skipped => more(counts, kind * 4 + SKIPPED),
-        Verdict::Differ => {
-            more(counts, kind * 4 + DIFFER);
-            if counts[kind * 4 + DIFFER] == 1 {
-                counts[kind * 4 + FIRST] = number;
+    // Counts line `number`.
+    pub fn add(&mut self, verdict: Verdict, number: u64) {
+        match verdict {
+            Verdict::Same => self.same = self.same.saturating_add(1),
+            Verdict::Skipped => self.skipped = self.skipped.saturating_add(1),
+            Verdict::Differ => {
+                self.differ = self.differ.saturating_add(1);
+                self.first = self.first.or(Some(number));
             }
         }
     }
 }
 
-fn print_kind<O: Write>(
-    output: &mut O,
-    kind: usize,
-    same: u64,
-    differ: u64,
-    skipped: u64,
-    first: u64,
-) {
-    streams::write_all(output, b"kind ");
-    streams::print_decimal(output, kind as u64);
-    streams::write_all(output, b" same ");
-    streams::print_decimal(output, same);
-    streams::write_all(output, b" differ ");
-    streams::print_decimal(output, differ);
-    streams::write_all(output, b" skipped ");
-    streams::print_decimal(output, skipped);
-    if 0 < differ {
-        streams::write_all(output, b" first ");
-        streams::print_decimal(output, first);
+impl fmt::Display for Counts {
+    fn fmt<W: fmt::Write>(&self, f: &mut fmt::Formatter<W>) -> fmt::Result {
+        let same = self.same;
+        let differ = self.differ;
+        let skipped = self.skipped;
+        write!(f, "same {same} differ {differ} skipped {skipped}")?;
+        match self.first {
+            Some(first) => write!(f, " first {first}"),
+            None => Ok(()),
+        }
     }
-    streams::write_all(output, b"\n");
 }
 
 // A line for each kind that was met.
-pub fn print<O: Write>(output: &mut O, counts: &[u64; 256]) {
-    for kind in 0..64usize {
-        let same = counts[kind * 4 + SAME];
-        let differ = counts[kind * 4 + DIFFER];
-        let skipped = counts[kind * 4 + SKIPPED];
-        let first = counts[kind * 4 + FIRST];
-        if same != 0 || differ != 0 || skipped != 0 {
-            print_kind(output, kind, same, differ, skipped, first);
+pub fn print<O: Write>(output: &mut O, counts: &[Counts; KINDS]) -> io::Result<()> {
+    for (kind, count) in counts.iter().enumerate() {
+        if *count != Counts::NONE {
+            writeln!(output, "kind {kind} {count}")?;
         }
     }
+    Ok(())
 }

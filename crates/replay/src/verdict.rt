@@ -1,7 +1,8 @@
 use answers::Answer;
+use lines::{Broken, Line};
 
 // What came of a line.
-#[derive(Clone, Copy)]
+#[derive(Clone, Copy, PartialEq, Eq, Debug)]
 pub enum Verdict {
     Same,
     Differ,
@@ -9,43 +10,34 @@ pub enum Verdict {
     Skipped,
 }
 
-// All of the line was as expected if its end was reached.
-pub fn reached(line: &[u8], at: usize) -> Verdict {
-    if at == line.len() {
-        return Verdict::Same;
+// Why a line's call was not made, or not compared to its end.
+#[derive(Clone, Copy, PartialEq, Eq, Debug)]
+pub enum Stop {
+    // the line has something else than was expected
+    Broken,
+    // a kind that is not here, or numbers that a part under the public calls does not take
+    Outside,
+}
+
+impl From<Broken> for Stop {
+    fn from(_broken: Broken) -> Self {
+        Stop::Broken
     }
-    Verdict::Differ
 }
 
-// What was read up to `at` is outside what the call takes; a line that is broken there differs.
-pub fn outside(at: usize) -> Verdict {
-    if at == lines::BROKEN {
-        return Verdict::Differ;
+impl Verdict {
+    // On a line of which this is left: all of it was as expected if its end was reached.
+    pub fn of(outcome: Result<(), Stop>, line: &Line) -> Self {
+        match outcome {
+            Ok(()) if line.is_empty() => Verdict::Same,
+            Ok(()) | Err(Stop::Broken) => Verdict::Differ,
+            Err(Stop::Outside) => Verdict::Skipped,
+        }
     }
-    Verdict::Skipped
 }
 
-// T is the line's last list.
-pub fn same_t(line: &[u8], at: usize, lent: usize, t: &[i64; 32]) -> Verdict {
-    reached(line, lines::same_lent(line, at, lent, t))
-}
-
-// S is.
-pub fn same_s(line: &[u8], at: usize, lent: usize, s: &[i64; 16]) -> Verdict {
-    reached(line, lines::same_lent(line, at, lent, s))
-}
-
-// The first four of T are, and `mark` still stands in all others.
-pub fn same_row4(line: &[u8], at: usize, lent: usize, t: &[i64; 32], mark: i64) -> Verdict {
-    let row = [t[0], t[1], t[2], t[3]];
-    if lines::rest_is(t, 4, mark) {
-        return reached(line, lines::same_lent(line, at, lent, &row));
-    }
-    Verdict::Differ
-}
-
-// The answer and the list are the line's last.
-pub fn answered(line: &[u8], at: usize, answer: Answer, lent: usize, list: &[i64]) -> Verdict {
-    let next = lines::same_unsigned(line, at, answers::code(answer) as u64);
-    reached(line, lines::same_lent(line, next, lent, list))
+// The answer and the list are what the line has next.
+pub fn answered(line: &mut Line, answer: Answer, lent: Line, list: &[i64]) -> Result<(), Stop> {
+    line.same(answers::code(answer))?;
+    Ok(line.same_lent(lent, list)?)
 }

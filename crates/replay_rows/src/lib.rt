@@ -1,102 +1,85 @@
-// Kinds 32, 33 and 34 of oracle/README.md: the row summary of a block, one token replaced, and the driver with the number of its row transforms.
-// Each call hands back the place up to which the line was as expected, BROKEN where it was not.
+// Kinds 32, 33 and 34 of oracle/README.md: the row summary of a block, one token replaced, and the driver with the number of its row
+// transforms. Each call reads what is left of its line, and is Broken where the line has something else than was expected.
 #![tactic(auto)]
 
 use answers::Answer;
-use lines::{BROKEN, Unsigned32};
+use lines::{Broken, Line};
 use quant::{AcQuant, DcQuant};
 use summary::{Row, RowSummary};
 
 // A summary stands in a line as a list of one number.
-fn read_summary(line: &[u8], at: usize) -> Unsigned32 {
-    let count = lines::read_unsigned(line, at);
-    if count.value != 1 {
-        return Unsigned32 {
-            value: 0,
-            next: BROKEN,
-        };
-    }
-    lines::read_unsigned32(line, count.next)
-}
-
-// The list at `at` is this summary; `lent` is the lent one.
-fn same_summary(line: &[u8], at: usize, lent: usize, summary: u32) -> usize {
-    let list = [summary as i64];
-    lines::same_lent(line, at, lent, &list)
+fn read_summary(line: &mut Line) -> Result<u32, Broken> {
+    line.same(1u32)?;
+    line.number()
 }
 
 // A row as a number, -1 where there is none.
 fn number(row: Row) -> i64 {
     match row {
         Row::None => -1,
-        Row::At(i) => i as i64,
+        Row::At(i) => i64::from(i),
     }
 }
 
-// The outcome at `at` is this answer, this summary, and what the summary says of itself.
-fn same_rows(line: &[u8], at: usize, lent: usize, answer: Answer, summary: u32) -> usize {
-    let count = lines::same_unsigned(line, at, answers::code(answer) as u64);
-    let first = lines::same_unsigned(line, count, summary::row_count(summary) as u64);
-    let last = lines::same(line, first, number(summary::first_row(summary)));
-    let next = lines::same(line, last, number(summary::last_row(summary)));
-    same_summary(line, next, lent, summary)
+// The outcome is this answer, this summary, and what the summary says of itself.
+fn same_rows(line: &mut Line, lent: Line, answer: Answer, summary: u32) -> Result<(), Broken> {
+    line.same(answers::code(answer))?;
+    line.same(summary::row_count(summary))?;
+    line.same(number(summary::first_row(summary)))?;
+    line.same(number(summary::last_row(summary)))?;
+    line.same_lent(lent, &[summary])
 }
 
 // Kind 32: n, the block, and the number in the room for the summary, which stays under a refusal.
-pub fn row_summary(line: &[u8], at: usize, numbers: &mut [i64]) -> usize {
-    let n = lines::read_unsigned32(line, at);
-    let l = lines::read_list(line, n.next, numbers);
-    let count = l.count;
-    let lent = read_summary(line, l.next);
-    match summary::row_summary(&numbers[0..count], n.value) {
-        RowSummary::Rows(rows) => same_rows(line, lent.next, l.next, Answer::Done, rows),
-        RowSummary::Refused(answer) => same_rows(line, lent.next, l.next, answer, lent.value),
+pub fn row_summary(line: &mut Line, numbers: &mut [i64]) -> Result<(), Broken> {
+    let n = line.number()?;
+    let count = line.list(numbers)?;
+    let lent = *line;
+    let given = read_summary(line)?;
+    match summary::row_summary(&numbers[..count], n) {
+        RowSummary::Rows(rows) => same_rows(line, lent, Answer::Done, rows),
+        RowSummary::Refused(answer) => same_rows(line, lent, answer, given),
     }
 }
 
 // Kind 33: size, place, token, the two quantizers, depth, the block and its summary.
-pub fn replace_token(line: &[u8], at: usize, numbers: &mut [i64]) -> usize {
-    let size = lines::read_unsigned32(line, at);
-    let place = lines::read_unsigned(line, size.next);
-    let token = lines::read_signed(line, place.next);
-    let dc = lines::read_signed32(line, token.next);
-    let ac = lines::read_signed32(line, dc.next);
-    let depth = lines::read_unsigned32(line, ac.next);
-    let l = lines::read_list(line, depth.next, numbers);
-    let count = l.count;
-    let lent = read_summary(line, l.next);
-    let mut rows = lent.value;
+pub fn replace_token(line: &mut Line, numbers: &mut [i64]) -> Result<(), Broken> {
+    let size = line.number()?;
+    let place = line.number()?;
+    let token = line.number()?;
+    let dc = line.number()?;
+    let ac = line.number()?;
+    let depth = line.number()?;
+    let lent_block = *line;
+    let count = line.list(numbers)?;
+    let lent_rows = *line;
+    let mut rows = read_summary(line)?;
+    let block = &mut numbers[..count];
     let answer = summary::replace_token(
-        &mut numbers[0..count],
+        block,
         &mut rows,
-        size.value,
-        place.value as usize,
-        token.value,
-        DcQuant(dc.value),
-        AcQuant(ac.value),
-        depth.value,
+        size,
+        place,
+        token,
+        DcQuant(dc),
+        AcQuant(ac),
+        depth,
     );
-    let block = lines::same_unsigned(line, lent.next, answers::code(answer) as u64);
-    let next = lines::same_lent(line, block, depth.next, &numbers[0..count]);
-    same_summary(line, next, l.next, rows)
+    line.same(answers::code(answer))?;
+    line.same_lent(lent_block, block)?;
+    line.same_lent(lent_rows, &[rows])
 }
 
 // Kind 34: n, type, lossless and the block.
-pub fn inverse_transform_2d_rows(line: &[u8], at: usize, numbers: &mut [i64]) -> usize {
-    let n = lines::read_unsigned32(line, at);
-    let tx_type = lines::read_unsigned8(line, n.next);
-    let lossless = lines::read_flag(line, tx_type.next);
-    let l = lines::read_list(line, lossless.next, numbers);
-    let count = l.count;
-    let driven = idct::inverse_transform_2d_rows(
-        &mut numbers[0..count],
-        n.value,
-        tx_type.value,
-        lossless.value,
-    );
-    let answer = driven.answer;
-    let rows = lines::same_unsigned(line, l.next, answers::code(answer) as u64);
-    let made = driven.rows;
-    let next = lines::same_unsigned(line, rows, made.number() as u64);
-    lines::same_lent(line, next, lossless.next, &numbers[0..count])
+pub fn inverse_transform_2d_rows(line: &mut Line, numbers: &mut [i64]) -> Result<(), Broken> {
+    let n = line.number()?;
+    let tx_type = line.number()?;
+    let lossless = line.flag()?;
+    let lent = *line;
+    let count = line.list(numbers)?;
+    let block = &mut numbers[..count];
+    let driven = idct::inverse_transform_2d_rows(block, n, tx_type, lossless);
+    line.same(answers::code(driven.answer))?;
+    line.same(driven.rows.number())?;
+    line.same_lent(lent, block)
 }

@@ -1,5 +1,6 @@
 // What the programs read, write and are given, over std: a reader read into a lent buffer, bytes and numbers written, the bytes of an
-// argument, a file opened by such bytes. Where a call fails, a bool or a count says so. No function has a `requires`.
+// argument, a file opened by such bytes. Where a call fails, a bool or a count says so, and no error, since the programs tell of it in one
+// line of their own words or not at all. No function has a `requires`.
 #![tactic(auto)]
 
 ghost use Rattle.std.specs.Prelude.{◌≡◌, ◌≤◌, ◌++◌, ℕ, List, [], ◌∷◌, length, take, decimal, codes, IsTrue, IsErrAnd, IsUtf8};
@@ -34,6 +35,7 @@ pub fn read_full<R: Read>(reader: &mut R, buf: &mut [u8]) -> usize
     ensures bytes { Consumes (R.remaining reader.old) (R.remaining reader.new) (take result buf.new) }
 {
     let mut done = 0;
+    // a turn reads as much as the reader gives, so that no iterator counts the turns
     while done < buf.len() {
         match reader.read(&mut buf[done..]) {
             Ok(0) => break,

@@ -1,10 +1,6 @@
-use mathlib.Core.Path.{◌≡◌}
-use Prim.Native.Nat.{◌+◌, ◌^◌, ◌<◌, ◌≤◌}
-use lib.ListN.{length}
+-- What waits in the buffer stands in it, and each turn counts a line at most.
+use Rattle.std.proofs.Common.{◌≡◌, ◌≤◌, length}
 use Rattle.replay.proofs.feed.each_line.Given as goal
 
-abbrev pub invariant-loop-turns : goal.invariant-loop-turns
-invariant-loop-turns g l = (length l.buf ≡ length l.initial.buf) × (length l.numbers ≡ length l.initial.numbers) × (l.from ≤ l.end) × (l.end ≤ length l.buf) × (l.number + l.turns < 2 ^ 64)
-
-abbrev pub decreases-loop-turns : goal.decreases-loop-turns
-decreases-loop-turns g l = l.turns
+abbrev pub invariant-loop-turn : goal.invariant-loop-turn
+invariant-loop-turn g l = (length l.buf ≡ length l.initial.buf) × (l.from ≤ l.end) × (l.end ≤ length l.buf) × (l.number ≤ l.turn)

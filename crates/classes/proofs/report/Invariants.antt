@@ -1,6 +1,0 @@
--- The arguments that are left get fewer.
-use Rattle.std.proofs.Common.{◌-◌}
-use Rattle.classes.proofs.report.Given as goal
-
-abbrev pub decreases-loop-i : goal.decreases-loop-i
-decreases-loop-i g l = l.count - l.i

@@ -1,6 +1,0 @@
-use Rattle.std.proofs.Common.{to_z-of_z}
-use mir.Facts.{sfits_widen}
-use Rattle.digest.proofs.files.long.Goals as goal
-
-pub overflow_cast-result : goal.overflow_cast-result
-overflow_cast-result c = rw (to_z-of_z c.ranges.x) (sfits_widen tt c.ranges.x)
