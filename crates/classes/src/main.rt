@@ -90,20 +90,23 @@ fn run<I: Read, E: Write>(input: &mut I, errors: &mut E, path: &[u8], report: &m
         left_out(errors, path, b": could not be read to its end\n");
         return false;
     }
-    let run = vbk_report::replay_report(
+    let outcome = vbk_report::replay_report(
         &file[..n],
         &mut samples,
         &mut answers,
         &mut report.counts,
         &mut report.sums,
     );
-    let number = answers::code(run.answer);
-    if number != 0 {
-        refused(errors, path, number);
-        return false;
+    match outcome {
+        Ok(run) => {
+            tell_records(errors, path, &answers, run.count);
+            true
+        }
+        Err(refusal) => {
+            refused(errors, path, u32::from(refusal));
+            false
+        }
     }
-    tell_records(errors, path, &answers, run.count);
-    true
 }
 
 // The file at the path; standard input by its name.

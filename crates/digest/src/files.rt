@@ -1,4 +1,5 @@
 // Runs over VBK files: mostly good ones, some cut or with a byte changed.
+use answers::Refusal;
 use vbk::Run;
 
 // Room for a file: a plane of at most 16 by 16, and records as far as they fit. What is put comes behind what is there.
@@ -136,15 +137,23 @@ pub fn flag(r: u64, lossless: bool) -> u64 {
 }
 
 // What a run leaves, and its figures.
-fn feed_run(digest: u64, run: Run, samples: &[u16], answers: &[u8]) -> u64 {
-    let figures = [
-        u64::from(answers::code(run.answer)),
-        u64::from(run.fields.depth),
-        u64::from(run.fields.width),
-        u64::from(run.fields.height),
-        run.count as u64,
-        run.touched as u64,
-    ];
+fn feed_run(
+    digest: u64,
+    outcome: Result<Run, Refusal>,
+    samples: &[u16],
+    answers: &[u8],
+) -> u64 {
+    let figures = match outcome {
+        Ok(run) => [
+            0,
+            u64::from(run.fields.depth),
+            u64::from(run.fields.width),
+            u64::from(run.fields.height),
+            run.count as u64,
+            run.touched as u64,
+        ],
+        Err(refusal) => [u64::from(u32::from(refusal)), 0, 0, 0, 0, 0],
+    };
     let mut digest = digest;
     for figure in figures {
         digest = draws::feed(digest, figure);

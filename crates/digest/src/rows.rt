@@ -2,14 +2,10 @@
 use crate::drivers::{ROOM, exponent, lent};
 use crate::samples::{scale, tokens_lent};
 use quant::{AcQuant, DcQuant};
-use summary::{Row, RowSummary};
 
 // A row's number, and all bits set where there is none.
-fn number(row: Row) -> u64 {
-    match row {
-        Row::None => u64::MAX,
-        Row::At(i) => u64::from(i),
-    }
+fn number(row: Option<u32>) -> u64 {
+    row.map_or(u64::MAX, u64::from)
 }
 
 // The digest after an answer, a summary, and what the summary says of itself.
@@ -33,10 +29,8 @@ pub fn row_summary(key: u64, digest: u64) -> u64 {
     let block = &mut room[..count];
     draws::fill(block, draws::draw(key, 5), draws::draw(key, 6) % 8);
     match summary::row_summary(block, exponent(size)) {
-        RowSummary::Rows(rows) => feed_rows(digest, 0, rows),
-        RowSummary::Refused(answer) => {
-            feed_rows(digest, answers::code(answer), low(draws::draw(key, 17)))
-        }
+        Ok(rows) => feed_rows(digest, 0, rows),
+        Err(refusal) => feed_rows(digest, u32::from(refusal), low(draws::draw(key, 17))),
     }
 }
 
@@ -59,10 +53,7 @@ fn token(r: u64, scale: u64) -> i64 {
 
 // A block's own summary, and 0 where it has none.
 fn own(block: &[i64], size: u32) -> u32 {
-    match summary::row_summary(block, exponent(size)) {
-        RowSummary::Rows(rows) => rows,
-        RowSummary::Refused(_) => 0,
-    }
+    summary::row_summary(block, exponent(size)).unwrap_or(0)
 }
 
 // The summary that is lent: once in four any number.
@@ -105,7 +96,10 @@ pub fn inverse_transform_2d_rows(key: u64, digest: u64) -> u64 {
     let tx_type = draws::tx_type(draws::draw(key, 3), size);
     let lossless = draws::lossless(draws::draw(key, 4), size);
     let driven = idct::inverse_transform_2d_rows(block, exponent(size), tx_type, lossless);
-    let answered = draws::feed(digest, u64::from(answers::code(driven.answer)));
-    let counted = draws::feed(answered, u64::from(driven.rows.number()));
-    draws::feed_list(counted, block)
+    let (answer, rows) = match driven {
+        Ok(rows) => (0, rows.number()),
+        Err(refusal) => (u32::from(refusal), 0),
+    };
+    let answered = draws::feed(digest, u64::from(answer));
+    draws::feed_list(draws::feed(answered, u64::from(rows)), block)
 }

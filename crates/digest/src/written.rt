@@ -2,7 +2,7 @@
 ghost use Rattle.std.specs.Prelude.{◌≤◌};
 
 use crate::files::{flag, side};
-use vbk_write::Written;
+use answers::Refusal;
 
 // The lists of numbers, one a record: at most three, and room for one too many.
 #[derive(Clone, Copy)]
@@ -108,15 +108,25 @@ fn room_lent(r: u64) -> usize {
 }
 
 // The answer, the length, the file and the sixteen bytes behind it.
-fn feed_written(digest: u64, written: Written, out: &[u8]) -> u64 {
-    let answered = draws::feed(digest, u64::from(answers::code(written.answer)));
-    let measured = draws::feed(answered, written.length as u64);
-    let shown = draws::within(written.length.wrapping_add(16), out);
+fn feed_written(digest: u64, written: Result<usize, Refusal>, out: &[u8]) -> u64 {
+    let (answer, length) = match written {
+        Ok(length) => (0, length),
+        Err(refusal) => (u32::from(refusal), 0),
+    };
+    let answered = draws::feed(digest, u64::from(answer));
+    let measured = draws::feed(answered, length as u64);
+    let shown = draws::within(length.wrapping_add(16), out);
     draws::feed_list(measured, &out[..shown])
 }
 
 // The call on the lists, into a lent room.
-fn written(key: u64, lists: &Lists, samples: &[u16], tokens: &[i32], out: &mut [u8]) -> Written {
+fn written(
+    key: u64,
+    lists: &Lists,
+    samples: &[u16],
+    tokens: &[i32],
+    out: &mut [u8],
+) -> Result<usize, Refusal> {
     let lent = Lent {
         odd: draws::draw(key, 8),
         records: draws::draw(key, 7),

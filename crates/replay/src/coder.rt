@@ -68,10 +68,10 @@ pub fn max_codeable_coef(line: &mut Line) -> Result<(), Stop> {
 }
 
 // What the quantizer of one number requires.
-fn quantizable(coef: i64, ac: AcQuant, most: u64) -> bool
-    ensures { result ≡ true → (bad_quantizer ac.0 ≡ false) × (nat_abs coef ≤ 2 ^ 31) × (most ≤ codeable 12) }
+fn quantizable(coef: i64, quantizer: i32, most: u64) -> bool
+    ensures { result ≡ true → (bad_quantizer quantizer ≡ false) × (nat_abs coef ≤ 2 ^ 31) × (most ≤ codeable 12) }
 {
-    if ac.bad() {
+    if quant::bad_quantizer(quantizer) {
         return false;
     }
     if COEF < magnitude(coef) {
@@ -83,11 +83,11 @@ fn quantizable(coef: i64, ac: AcQuant, most: u64) -> bool
 // Kind 36: a coefficient, its quantizer, the size and the limit of a token.
 pub fn quantize(line: &mut Line) -> Result<(), Stop> {
     let coef = line.number()?;
-    let ac = AcQuant(line.number()?);
+    let quantizer = line.number()?;
     let size = line.number()?;
     let most = line.number()?;
-    if quantizable(coef, ac, most) {
-        let token = ac.quantize(coef, size, most, 1);
+    if quantizable(coef, quantizer, most) {
+        let token = quant::quantize(quantizer, coef, size, most, 1);
         return Ok(line.same(token)?);
     }
     Err(Stop::Outside)

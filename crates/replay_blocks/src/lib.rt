@@ -2,7 +2,7 @@
 // left of its line, and is Broken where the line has something else than was expected.
 #![tactic(auto)]
 
-use answers::Answer;
+use answers::{Answer, Refusal};
 use lines::{Broken, Line};
 use plane::Plane;
 use quant::{AcQuant, DcQuant};
@@ -143,12 +143,23 @@ pub fn reconstruct_block_report(line: &mut Line) -> Result<(), Broken> {
     line.same_lent(lent_sums, &sums.map(signed))
 }
 
-// The outcome is that of a run.
-fn same_run(line: &mut Line, run: Run, answers: &[u8], samples: &[u16]) -> Result<(), Broken> {
-    let area = vbk_read::plane_area(run.fields.width, run.fields.height);
-    line.same(answers::code(run.answer))?;
-    line.same(run.touched)?;
-    line.same_list(answers.get(..run.count).ok_or(Broken)?)?;
+// The outcome is that of a run; a refused one has zeros.
+fn same_run(
+    line: &mut Line,
+    outcome: Result<Run, Refusal>,
+    answers: &[u8],
+    samples: &[u16],
+) -> Result<(), Broken> {
+    let (number, touched, count, area) = match outcome {
+        Ok(run) => {
+            let area = vbk_read::plane_area(run.fields.width, run.fields.height);
+            (0, run.touched, run.count, area)
+        }
+        Err(refusal) => (u32::from(refusal), 0, 0, 0),
+    };
+    line.same(number)?;
+    line.same(touched)?;
+    line.same_list(answers.get(..count).ok_or(Broken)?)?;
     line.same_list(samples.get(..area).ok_or(Broken)?)
 }
 

@@ -58,7 +58,11 @@ pub fn vbk_write(line: &mut Line) -> Result<(), Broken> {
         &tokens[..token_count],
         &mut out[..length],
     );
-    line.same(answers::code(written.answer))?;
-    line.same(written.length)?;
+    let (number, size) = match written {
+        Ok(size) => (0, size),
+        Err(refusal) => (u32::from(refusal), 0),
+    };
+    line.same(number)?;
+    line.same(size)?;
     line.same_lent(lent, &out[..length])
 }

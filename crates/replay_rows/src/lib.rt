@@ -5,7 +5,6 @@
 use answers::Answer;
 use lines::{Broken, Line};
 use quant::{AcQuant, DcQuant};
-use summary::{Row, RowSummary};
 
 // A summary stands in a line as a list of one number.
 fn read_summary(line: &mut Line) -> Result<u32, Broken> {
@@ -14,11 +13,8 @@ fn read_summary(line: &mut Line) -> Result<u32, Broken> {
 }
 
 // A row as a number, -1 where there is none.
-fn number(row: Row) -> i64 {
-    match row {
-        Row::None => -1,
-        Row::At(i) => i64::from(i),
-    }
+fn number(row: Option<u32>) -> i64 {
+    row.map_or(-1, i64::from)
 }
 
 // The outcome is this answer, this summary, and what the summary says of itself.
@@ -37,8 +33,8 @@ pub fn row_summary(line: &mut Line, numbers: &mut [i64]) -> Result<(), Broken> {
     let lent = *line;
     let given = read_summary(line)?;
     match summary::row_summary(&numbers[..count], n) {
-        RowSummary::Rows(rows) => same_rows(line, lent, Answer::Done, rows),
-        RowSummary::Refused(answer) => same_rows(line, lent, answer, given),
+        Ok(rows) => same_rows(line, lent, Ok(()), rows),
+        Err(refusal) => same_rows(line, lent, Err(refusal), given),
     }
 }
 
@@ -78,8 +74,11 @@ pub fn inverse_transform_2d_rows(line: &mut Line, numbers: &mut [i64]) -> Result
     let lent = *line;
     let count = line.list(numbers)?;
     let block = &mut numbers[..count];
-    let driven = idct::inverse_transform_2d_rows(block, n, tx_type, lossless);
-    line.same(answers::code(driven.answer))?;
-    line.same(driven.rows.number())?;
+    let (answer, rows) = match idct::inverse_transform_2d_rows(block, n, tx_type, lossless) {
+        Ok(rows) => (0, rows.number()),
+        Err(refusal) => (u32::from(refusal), 0),
+    };
+    line.same(answer)?;
+    line.same(rows)?;
     line.same_lent(lent, block)
 }
