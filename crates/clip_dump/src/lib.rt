@@ -1,5 +1,7 @@
 // A clip's text made of a VBK file (docs/REFERENCE.md): a row for the header, one for each row of samples, and for each record its own row
 // and one for each row of tokens. A file that no text can say is told in words.
+// Each function takes the place to write at beside the buffer and hands back the next one: how far it is at most is what its contract says, and
+// a struct that held the buffer would have to say in each clause besides that it still holds it.
 #![tactic(auto)]
 
 ghost use Rattle.std.specs.Prelude.{◌≡◌, ◌+◌, ◌*◌, ◌≤◌, ◌<◌, length, IfOk, MatchResult};

@@ -7,7 +7,8 @@ use clip_rows::{Line, Separator};
 use clip_state::{Header, MOST, Over, State, letter_row, tokens_of};
 use clip_told::{Cell, Column, Fault, Plane, Row};
 
-// What a text says: what is known of it, and the lists of a file, with room for those of any.
+// What a text says: what is known of it, and the lists of a file, one for each number of a record as `vbk_write` takes them, with room for
+// those of any file.
 #[derive(Drop)]
 pub struct Clip {
     pub state: State,

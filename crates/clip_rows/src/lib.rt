@@ -1,7 +1,7 @@
 // The rows of a clip's text (docs/REFERENCE.md): lines, fields and numbers, each the front of the bytes that are left; and words put into a buffer.
 #![tactic(auto)]
 
-ghost use Rattle.std.specs.Prelude.{◌≡◌, ◌+◌, ◌≤◌, ◌<◌, length};
+ghost use Rattle.std.specs.Prelude.{◌≡◌, ◌+◌, ◌≤◌, ◌<◌, length, IfSome};
 ghost use Rattle.clip_rows.specs.Rows.{Said};
 
 // A line without its end, and the lines after it.
@@ -101,7 +101,7 @@ fn past_mark(text: &[u8]) -> &[u8]
 // A row's first field: empty where a comma, semicolon or tab is there already.
 pub fn first_field(row: &[u8]) -> Field
     requires { 0 < length row.now }
-    ensures within { length result.text.now ≤ length row.now }
+    ensures within { length result.text.now + length result.rest.now ≤ length row.now }
     ensures onward { length result.rest.now < length row.now }
 {
     let word = skip_blanks(row);
@@ -141,7 +141,7 @@ fn cell_end(row: &[u8], separator: Separator) -> usize
 // The field at the front of a row that blanks part.
 fn next_word(row: &[u8]) -> Field
     requires { 0 < length row.now }
-    ensures within { length result.text.now ≤ length row.now }
+    ensures within { length result.text.now + length result.rest.now ≤ length row.now }
     ensures onward { length result.rest.now < length row.now }
 {
     let word = skip_blanks(row);
@@ -163,7 +163,7 @@ fn next_word(row: &[u8]) -> Field
 // The field at the front of a row with a separator: what stands before the next one, without the blanks around it.
 fn next_cell(row: &[u8], separator: Separator) -> Field
     requires { 0 < length row.now }
-    ensures within { length result.text.now ≤ length row.now }
+    ensures within { length result.text.now + length result.rest.now ≤ length row.now }
     ensures onward { length result.rest.now < length row.now }
 {
     let (cell, left) = row.split_at(cell_end(row, separator));
@@ -176,7 +176,7 @@ fn next_cell(row: &[u8], separator: Separator) -> Field
 // The field at the front of a row whose fields are parted so.
 pub fn next_field(row: &[u8], separator: Separator) -> Field
     requires { 0 < length row.now }
-    ensures within { length result.text.now ≤ length row.now }
+    ensures within { length result.text.now + length result.rest.now ≤ length row.now }
     ensures onward { length result.rest.now < length row.now }
 {
     match separator {
@@ -250,7 +250,9 @@ fn read_digits(digits: &[u8]) -> Option<i64> {
 }
 
 // COUNT*VALUE, parted at its star.
-pub fn at_star(field: &[u8]) -> Option<(&[u8], &[u8])> {
+pub fn at_star(field: &[u8]) -> Option<(&[u8], &[u8])>
+    ensures { IfSome result (λ p. length p.0.now + 1 + length p.1.now ≡ length field.now) }
+{
     let star = field.iter().position(|&b| b == b'*')?;
     Some((&field[..star], &field[star + 1..]))
 }
