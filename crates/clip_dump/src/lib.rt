@@ -1,39 +1,68 @@
 // A clip's text made of a VBK file (docs/REFERENCE.md): a row for the header, one for each row of samples, and for each record its own row
 // and one for each row of tokens. A file that no text can say is told in words.
+// Each function takes the place to write at beside the buffer and hands back the next one: how far it is at most is what its contract says, and
+// a struct that held the buffer would have to say in each clause besides that it still holds it.
 #![tactic(auto)]
 
-ghost use Rattle.std.specs.Prelude.{◌≡◌, ◌+◌, ◌*◌, ◌≤◌, ◌<◌, length};
+ghost use Rattle.std.specs.Prelude.{◌≡◌, ◌+◌, ◌*◌, ◌≤◌, ◌<◌, length, IfOk, MatchResult};
 ghost use Rattle.clip_rows.specs.Rows.{Said};
 ghost use Rattle.clip_dump.specs.Inner.{Within, Plane};
 
+use std::fmt;
+use std::fmt::{Display, InlineText, Write};
 use vbk_read::{Cursor, Head};
 
 // No text is longer: 16 bytes for each of the longest file.
 pub const TEXT_LIMIT: usize = 1048560;
 
-// The file made text, or words on what is wrong; how long that is in the buffer.
+// No line of words is longer.
+const LINE_LIMIT: usize = 256;
+
+// Why no text can say a file: the answer's number of its header or of a record, and which record that is.
 #[derive(Clone, Copy)]
-pub struct Dumped {
-    pub good: bool,
-    pub length: usize,
+enum Refused {
+    Header { answer: u32 },
+    Record { index: u64, at: usize, answer: u32 },
 }
 
-// Where the writing of records ended: the record's index, its place, its answer's number, which is 0 past the last one, and the place in
-// the text.
+// What an answer of the header or a record means.
 #[derive(Clone, Copy)]
-struct Scan {
-    index: u64,
-    at: usize,
-    number: u32,
-    place: usize,
+struct Meaning {
+    answer: u32,
 }
 
-// A record's answer, the place of the next one in the file, and the place past its rows in the text.
+// The place of the next record in the file, and the place past this one's rows in the text.
 #[derive(Clone, Copy)]
 struct Step {
-    number: u32,
     next: usize,
     place: usize,
+}
+
+impl Display for Meaning {
+    fn fmt<W: Write>(&self, f: &mut fmt::Formatter<W>) -> fmt::Result {
+        f.write_str(match self.answer {
+            1 => "the depth is not 8, 10 or 12",
+            2 => "the size is above 3, and the next record's place is not known",
+            10 => "the file does not begin with VBK",
+            11 => "the version is not 1",
+            12 => "the file is cut short",
+            13 => "the file is above 65535 bytes, or width times height is not 1 to 4096",
+            14 => "the lossless byte is above 1",
+            _ => "",
+        })?;
+        write!(f, " (answer {})", self.answer)
+    }
+}
+
+impl Display for Refused {
+    fn fmt<W: Write>(&self, f: &mut fmt::Formatter<W>) -> fmt::Result {
+        match *self {
+            Refused::Header { answer } => writeln!(f, "header: {}", Meaning { answer }),
+            Refused::Record { index, at, answer } => {
+                writeln!(f, "record {index} at byte {at}: {}", Meaning { answer })
+            }
+        }
+    }
 }
 
 // One byte.
@@ -126,12 +155,10 @@ fn put_samples(out: &mut [u8], at: usize, file: &[u8], from: usize, width: usize
     ensures { Within out.old at (21 * width) result out.new }
 {
     let mut place = at;
-    let mut k = 0;
-    while k < width {
+    for k in 0..width {
         let c = Cursor { at: from + 2 * k };
         let got = c.read_u16(file);
         place = put_number(out, place, words::wide16(got.value));
-        k += 1;
     }
     place
 }
@@ -152,10 +179,8 @@ fn put_plane(out: &mut [u8], at: usize, file: &[u8], width: usize, height: usize
     ensures { Within out.old at (23 * (height * width)) result out.new }
 {
     let mut place = at;
-    let mut r = 0;
-    while r < height {
+    for r in 0..height {
         place = put_row(out, place, file, 10 + 2 * (r * width), width);
-        r += 1;
     }
     place
 }
@@ -166,12 +191,10 @@ fn put_tokens(out: &mut [u8], at: usize, file: &[u8], from: usize, side: usize) 
     ensures { Within out.old at (22 * side) result out.new }
 {
     let mut place = at;
-    let mut k = 0;
-    while k < side {
+    for k in 0..side {
         let c = Cursor { at: from + 4 * k };
         let got = c.read_i32(file);
         place = put_token(out, place, got.value);
-        k += 1;
     }
     place
 }
@@ -192,10 +215,8 @@ fn put_block(out: &mut [u8], at: usize, file: &[u8], from: usize, side: usize) -
     ensures { Within out.old at (24 * (side * side)) result out.new }
 {
     let mut place = at;
-    let mut r = 0;
-    while r < side {
+    for r in 0..side {
         place = put_line(out, place, file, from + 4 * (r * side), side);
-        r += 1;
     }
     place
 }
@@ -241,134 +262,65 @@ fn put_record(out: &mut [u8], at: usize, file: &[u8], from: usize, h: Head, side
     put_block(out, a, file, from + 11, side)
 }
 
-// The next index.
-fn one_more(index: u64) -> u64 {
-    if index == 18446744073709551615 {
-        return index;
-    }
-    index + 1
-}
-
-// The rows of the record at a place of the file, if it is not refused.
-fn put_one(out: &mut [u8], at: usize, file: &[u8], from: usize) -> Step
+// The rows of the record at a place of the file, or its answer's number.
+fn put_one(out: &mut [u8], at: usize, file: &[u8], from: usize) -> Result<Step, u32>
     requires { (at ≤ 16 * from) × ((from < length file.now) × (16 * length file.now ≤ length out.old)) }
-    ensures { (result.place ≤ 16 * result.next) × ((from < result.next) × ((result.next ≤ length file.now) × (length out.new ≡ length out.old))) }
+    ensures step { IfOk result (λ s. (s.place ≤ 16 * s.next) × ((from < s.next) × (s.next ≤ length file.now))) }
+    ensures room { length out.new ≡ length out.old }
 {
     let record = vbk_read::record_at(file, from);
     let answer = record.answer;
     let number = answers::code(answer);
     if number != 0 {
-        return Step {
-            number,
-            next: file.len(),
-            place: at,
-        };
+        return Err(number);
     }
     let h = record.head;
     let side = answers::side(h.size as u32 + 2);
-    Step {
-        number,
+    Ok(Step {
         next: record.next.at,
         place: put_record(out, at, file, from, h, side),
-    }
+    })
 }
 
-// The rows of all records from a place on, up to the first that is refused.
-fn put_records(out: &mut [u8], at: usize, file: &[u8], from: usize) -> Scan
+// The rows of all records from a place on, where none is refused; the place past them.
+fn put_records(out: &mut [u8], at: usize, file: &[u8], from: usize) -> Result<usize, Refused>
     requires { (at ≤ 16 * from) × ((from ≤ length file.now) × (16 * length file.now ≤ length out.old)) }
-    ensures { Said out.old result.place out.new }
+    ensures place { IfOk result (λ n. n ≤ length out.new) }
+    ensures room { length out.new ≡ length out.old }
 {
     let mut place = at;
     let mut p = from;
     let mut index: u64 = 0;
     while p < file.len() {
-        let step = put_one(out, place, file, p);
-        if step.number != 0 {
-            return Scan {
-                index,
-                at: p,
-                number: step.number,
-                place: step.place,
-            };
+        match put_one(out, place, file, p) {
+            Ok(step) => {
+                place = step.place;
+                p = step.next;
+            }
+            Err(answer) => {
+                return Err(Refused::Record {
+                    index,
+                    at: p,
+                    answer,
+                });
+            }
         }
-        index = one_more(index);
-        place = step.place;
-        p = step.next;
+        index = index.saturating_add(1);
     }
-    Scan {
-        index,
-        at: p,
-        number: 0,
-        place,
-    }
-}
-
-// What an answer of the header or a record means.
-fn say_answer(out: &mut [u8], at: usize, number: u32) -> usize
-    requires { at ≤ length out.old }
-    ensures { Said out.old result out.new }
-{
-    match number {
-        1 => clip_rows::say(out, at, b"the depth is not 8, 10 or 12"),
-        2 => clip_rows::say(
-            out,
-            at,
-            b"the size is above 3, and the next record's place is not known",
-        ),
-        10 => clip_rows::say(out, at, b"the file does not begin with VBK"),
-        11 => clip_rows::say(out, at, b"the version is not 1"),
-        12 => clip_rows::say(out, at, b"the file is cut short"),
-        13 => clip_rows::say(
-            out,
-            at,
-            b"the file is above 65535 bytes, or width times height is not 1 to 4096",
-        ),
-        14 => clip_rows::say(out, at, b"the lossless byte is above 1"),
-        _ => at,
-    }
-}
-
-// The answer's meaning and its number.
-fn say_refusal(out: &mut [u8], at: usize, number: u32) -> usize
-    requires { at ≤ length out.old }
-    ensures { Said out.old result out.new }
-{
-    let a = say_answer(out, at, number);
-    let b = clip_rows::say(out, a, b" (answer ");
-    let c = clip_rows::say_number(out, b, number as u64);
-    clip_rows::say(out, c, b")\n")
-}
-
-// `header: ..`
-fn tell_header(out: &mut [u8], number: u32) -> Dumped
-    ensures { Said out.old result.length out.new }
-{
-    let a = clip_rows::say(out, 0, b"header: ");
-    Dumped {
-        good: false,
-        length: say_refusal(out, a, number),
-    }
-}
-
-// `record 3 at byte 400: ..`
-fn tell_record(out: &mut [u8], index: u64, at: usize, number: u32) -> Dumped
-    ensures { Said out.old result.length out.new }
-{
-    let a = clip_rows::say(out, 0, b"record ");
-    let b = clip_rows::say_number(out, a, index);
-    let c = clip_rows::say(out, b, b" at byte ");
-    let d = clip_rows::say_number(out, c, at as u64);
-    let e = clip_rows::say(out, d, b": ");
-    Dumped {
-        good: false,
-        length: say_refusal(out, e, number),
-    }
+    Ok(place)
 }
 
 // The rows of a file with a good header.
-fn put_file(out: &mut [u8], file: &[u8], depth: u8, width: u16, height: u16) -> Scan
+fn put_file(
+    out: &mut [u8],
+    file: &[u8],
+    depth: u8,
+    width: u16,
+    height: u16,
+) -> Result<usize, Refused>
     requires { Plane file.now width height × (1048560 ≤ length out.old) }
-    ensures { Said out.old result.place out.new }
+    ensures place { IfOk result (λ n. n ≤ length out.new) }
+    ensures room { length out.new ≡ length out.old }
 {
     let w = words::count16(width);
     let h = words::count16(height);
@@ -377,37 +329,40 @@ fn put_file(out: &mut [u8], file: &[u8], depth: u8, width: u16, height: u16) -> 
     put_records(out, b, file, 10 + 2 * (h * w))
 }
 
-// The text of a file, in a buffer that has room for the longest.
-fn dump_text(file: &[u8], out: &mut [u8]) -> Dumped
+// The text of a file, in a buffer that has room for the longest; how long it is.
+fn dump_text(file: &[u8], out: &mut [u8]) -> Result<usize, Refused>
     requires { 1048560 ≤ length out.old }
-    ensures { Said out.old result.length out.new }
+    ensures place { IfOk result (λ n. n ≤ length out.new) }
+    ensures room { length out.new ≡ length out.old }
 {
     let header = vbk_read::read_header(file);
     let answer = header.answer;
     let number = answers::code(answer);
     if number != 0 {
-        return tell_header(out, number);
+        return Err(Refused::Header { answer: number });
     }
     let f = header.fields;
-    let s = put_file(out, file, f.depth, f.width, f.height);
-    if s.number != 0 {
-        return tell_record(out, s.index, s.at, s.number);
-    }
-    Dumped {
-        good: true,
-        length: s.place,
-    }
+    put_file(out, file, f.depth, f.width, f.height)
 }
 
-// The text of a file, at the start of the buffer; or words on what is wrong there. Nothing where the longest text has no room.
-pub fn dump(file: &[u8], out: &mut [u8]) -> Dumped
-    ensures { Said out.old result.length out.new }
+// The words on what is wrong, at the start of the buffer.
+fn tell(out: &mut [u8], refused: Refused) -> usize
+    ensures { Said out.old result out.new }
+{
+    let line = InlineText::<LINE_LIMIT>::of(refused);
+    clip_rows::say(out, 0, line.as_str().as_bytes())
+}
+
+// The text of a file, at the start of the buffer, and how long it is; or words on what is wrong there, and how long these are: none where
+// the longest text has no room.
+pub fn dump(file: &[u8], out: &mut [u8]) -> Result<usize, usize>
+    ensures { MatchResult result (λ n. Said out.old n out.new) (λ n. Said out.old n out.new) }
 {
     if out.len() < TEXT_LIMIT {
-        return Dumped {
-            good: false,
-            length: 0,
-        };
+        return Err(0);
     }
-    dump_text(file, out)
+    match dump_text(file, out) {
+        Ok(length) => Ok(length),
+        Err(refused) => Err(tell(out, refused)),
+    }
 }

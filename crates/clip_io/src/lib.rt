@@ -16,80 +16,65 @@ pub fn read_text<I: Read>(input: &mut I, text: &mut [u8; 1048576]) -> usize {
     streams::read_full(input, text)
 }
 
-// How a text is written, by its first two bytes: 0 in bytes, 1 in UTF-16 with the low byte of each pair first, 2 with the high byte first. A
-// pair that is the mark of UTF-16 says so, and so does one with a byte of 0, which no text in bytes begins with.
-fn order(first: u8, second: u8) -> usize
-    ensures { result ≤ 2 }
-{
-    if first == 255 {
-        if second == 254 {
-            return 1;
-        }
+// Which byte of a pair of UTF-16 comes first.
+#[derive(Clone, Copy, Debug, PartialEq, Eq)]
+enum Order {
+    LowFirst,
+    HighFirst,
+}
+
+// How a text is written, by its first two bytes; none in bytes. A pair that is the mark of UTF-16 says so, and so does one with a byte of 0,
+// which no text in bytes begins with.
+fn order_of(first: u8, second: u8) -> Option<Order> {
+    match (first, second) {
+        (255, 254) => Some(Order::LowFirst),
+        (254, 255) => Some(Order::HighFirst),
+        (_, 0) => Some(Order::LowFirst),
+        (0, _) => Some(Order::HighFirst),
+        _ => None,
     }
-    if first == 254 {
-        if second == 255 {
-            return 2;
-        }
-    }
-    if second == 0 {
-        return 1;
-    }
-    if first == 0 {
-        return 2;
-    }
-    0
 }
 
 // A pair of UTF-16 as a byte: a blank for its mark, `?` for what is no ASCII.
 fn narrow(low: u8, high: u8) -> u8 {
-    if high == 0 {
-        if low < 128 {
-            return low;
-        }
-        return b'?';
+    match (high, low) {
+        (0, 0..=127) => low,
+        (254, 255) => b' ',
+        _ => b'?',
     }
-    if high == 254 {
-        if low == 255 {
-            return b' ';
-        }
-    }
-    b'?'
 }
 
-// n pairs made bytes, with the low byte at this place of a pair.
-fn narrow_all(text: &mut [u8; 1048576], n: usize, low: usize)
-    requires { (n ≤ 524288) × (low ≤ 1) }
+// n pairs made bytes.
+fn narrow_all(text: &mut [u8; 1048576], n: usize, order: Order)
+    requires { n ≤ 524288 }
 {
-    let high = 1 - low;
-    let mut i = 0;
-    while i < n {
-        text[i] = narrow(text[2 * i + low], text[2 * i + high]);
-        i += 1;
+    for i in 0..n {
+        let first = text[2 * i];
+        let second = text[2 * i + 1];
+        text[i] = match order {
+            Order::LowFirst => narrow(first, second),
+            Order::HighFirst => narrow(second, first),
+        };
     }
 }
 
 // A text of n bytes, in bytes: how many they are then.
 pub fn in_bytes(text: &mut [u8; 1048576], n: usize) -> usize {
-    if 1048576 < n {
+    if text.len() < n || n < 2 {
         return n;
     }
-    if n < 2 {
-        return n;
+    match order_of(text[0], text[1]) {
+        Some(order) => {
+            narrow_all(text, n / 2, order);
+            n / 2
+        }
+        None => n,
     }
-    let kind = order(text[0], text[1]);
-    if kind == 0 {
-        return n;
-    }
-    narrow_all(text, n / 2, kind - 1);
-    n / 2
 }
 
 // The first n bytes; all where there are fewer.
 pub fn front(bytes: &[u8], n: usize) -> &[u8] {
-    if bytes.len() < n {
-        return bytes;
-    }
-    &bytes[0..n]
+    bytes.get(..n).unwrap_or(bytes)
 }
 
 // Whether the input is at its end: one more read gives nothing. Where a read fails, or failed before, it gives something else.
@@ -107,24 +92,4 @@ pub fn put_out<O: Write, E: Write>(output: &mut O, errors: &mut E, bytes: &[u8])
     if !streams::write_all(output, bytes) {
         tell(errors, b"the output could not be written to its end\n");
     }
-}
-
-// What was made, or the words on what is wrong.
-pub fn hand_out<O: Write, E: Write>(output: &mut O, errors: &mut E, good: bool, bytes: &[u8]) {
-    if !good {
-        tell(errors, bytes);
-        return;
-    }
-    put_out(output, errors, bytes);
-}
-
-// The same of a text in its room.
-pub fn hand_text<O: Write, E: Write>(
-    output: &mut O,
-    errors: &mut E,
-    good: bool,
-    text: &[u8; 1048576],
-    n: usize,
-) {
-    hand_out(output, errors, good, front(text, n));
 }

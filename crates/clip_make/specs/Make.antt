@@ -1,5 +1,5 @@
 -- What `make` promises: what it made is a file that the writer takes the lists of, or nothing; and words that their buffer has room for.
-use Rattle.std.specs.Prelude.{◌≡◌, true, false, List, ◌++◌, ℕ, length, drop}
+use Rattle.std.specs.Prelude.{◌≡◌, List, ◌++◌, ℕ, length, drop, IfSome, IfNone}
 use Rattle.clip_rows.specs.Rows.{Said}
 use Rattle.vbk_write.specs.Lent.{Lent, file_of}
 use Rattle.vbk_write.specs.Promises.{answer_of}
@@ -15,5 +15,5 @@ pub record FileMade (out : List ℕ) (n : ℕ) (after : List ℕ) : Type 0 where
 -- the promise
 pub record MadeOf (out words : List ℕ) (r : Made) (after told : List ℕ) : Type 0 where
   pub said : Said words r.said told
-  pub file : r.good ≡ true → FileMade out r.length after
-  pub stays : r.good ≡ false → after ≡ out
+  pub file : IfSome r.file (λ n. FileMade out n after)
+  pub stays : IfNone r.file (after ≡ out)

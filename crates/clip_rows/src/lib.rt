@@ -1,390 +1,260 @@
-// The rows of a clip's text (docs/REFERENCE.md): lines, fields and numbers read at a place, words and numbers written at one.
+// The rows of a clip's text (docs/REFERENCE.md): lines, fields and numbers, each the front of the bytes that are left; and words put into a buffer.
 #![tactic(auto)]
 
-ghost use Rattle.std.specs.Prelude.{◌≡◌, ◌+◌, ◌≤◌, ◌<◌, length};
+ghost use Rattle.std.specs.Prelude.{◌≡◌, ◌+◌, ◌≤◌, ◌<◌, length, IfSome};
 ghost use Rattle.clip_rows.specs.Rows.{Said};
 
-// A line: the place of its end, and of the next line.
+// A line without its end, and the lines after it.
 #[derive(Clone, Copy)]
-pub struct Line {
-    pub end: usize,
-    pub next: usize,
+pub struct Line<'a> {
+    pub text: &'a [u8],
+    pub rest: &'a [u8],
 }
 
-// A field: its first byte, the place past its last one, and the place to read on from.
+// A field without the blanks around it, and what is left of its row.
 #[derive(Clone, Copy)]
-pub struct Field {
-    pub from: usize,
-    pub to: usize,
-    pub next: usize,
+pub struct Field<'a> {
+    pub text: &'a [u8],
+    pub rest: &'a [u8],
 }
 
-// Whether all bytes are digits after at most one minus, the sign and the magnitude.
-#[derive(Clone, Copy)]
-pub struct Number {
-    pub good: bool,
-    pub minus: bool,
-    pub value: u64,
+// What parts the fields of a row.
+#[derive(Clone, Copy, Debug, PartialEq, Eq)]
+pub enum Separator {
+    // it is not known yet: any comma, semicolon or tab
+    Any,
+    Blank,
+    Mark(u8),
 }
 
-// The separator of a row that is not known yet: any of the three counts.
-pub const ANY: u8 = 0;
+impl Separator {
+    // The first comma, semicolon or tab of a row outside quotation marks; a blank where there is none.
+    pub fn of(row: &[u8]) -> Separator {
+        let end = cell_end(row, Separator::Any);
+        row.get(end)
+            .map_or(Separator::Blank, |&b| Separator::Mark(b))
+    }
 
-// The separator of a row that blanks part.
-pub const BLANK: u8 = b' ';
-
-// A number past this one is past every limit, and keeps its place among them.
-const GREAT: u64 = 1000000000000000000;
+    // Whether a byte parts fields.
+    fn parts(self, b: u8) -> bool {
+        match self {
+            Separator::Any => is_mark(b),
+            Separator::Blank => b == b' ',
+            Separator::Mark(mark) => b == mark,
+        }
+    }
+}
 
 // A blank, the carriage return before a line's end, or a quotation mark.
 fn is_blank(b: u8) -> bool {
-    match b {
-        b' ' => true,
-        b'\r' => true,
-        b'"' => true,
-        _ => false,
-    }
+    matches!(b, b' ' | b'\r' | b'"')
 }
 
 // Comma, semicolon or tab.
 fn is_mark(b: u8) -> bool {
-    match b {
-        b',' => true,
-        b';' => true,
-        b'\t' => true,
+    matches!(b, b',' | b';' | b'\t')
+}
+
+// The text from its first byte on that is no blank.
+pub fn skip_blanks(text: &[u8]) -> &[u8]
+    ensures { length result.now ≤ length text.now }
+{
+    let blanks = text
+        .iter()
+        .position(|&b| !is_blank(b))
+        .unwrap_or(text.len());
+    &text[blanks..]
+}
+
+// The text without the blanks and separators at its end.
+pub fn trimmed(text: &[u8], separator: Separator) -> &[u8]
+    ensures { length result.now ≤ length text.now }
+{
+    match text
+        .iter()
+        .rposition(|&b| !is_blank(b) && !separator.parts(b))
+    {
+        Some(last) => &text[..last + 1],
+        None => &text[..0],
+    }
+}
+
+// How many bytes a word has.
+fn word_length(text: &[u8], separator: Separator) -> usize
+    ensures { result ≤ length text.now }
+{
+    text.iter()
+        .position(|&b| is_blank(b) || separator.parts(b))
+        .unwrap_or(text.len())
+}
+
+// What follows one comma, semicolon or tab, where one is there.
+fn past_mark(text: &[u8]) -> &[u8]
+    ensures { length result.now ≤ length text.now }
+{
+    match text.split_first() {
+        Some((&b, rest)) if is_mark(b) => rest,
+        _ => text,
+    }
+}
+
+// A row's first field: empty where a comma, semicolon or tab is there already.
+pub fn first_field(row: &[u8]) -> Field
+    requires { 0 < length row.now }
+    ensures within { length result.text.now + length result.rest.now ≤ length row.now }
+    ensures onward { length result.rest.now < length row.now }
+{
+    let word = skip_blanks(row);
+    match word.split_first() {
+        None => Field {
+            text: word,
+            rest: word,
+        },
+        Some((&b, rest)) if is_mark(b) => Field {
+            text: &word[..0],
+            rest,
+        },
+        Some((_, others)) => {
+            let (text, rest) = word.split_at(1 + word_length(others, Separator::Any));
+            Field {
+                text,
+                rest: past_mark(skip_blanks(rest)),
+            }
+        }
+    }
+}
+
+// The place of the next separator outside quotation marks; the end where there is none.
+fn cell_end(row: &[u8], separator: Separator) -> usize
+    ensures { result ≤ length row.now }
+{
+    let mut quoted = false;
+    for (i, &b) in row.iter().enumerate() {
+        if !quoted && separator.parts(b) {
+            return i;
+        }
+        quoted ^= b == b'"';
+    }
+    row.len()
+}
+
+// The field at the front of a row that blanks part.
+fn next_word(row: &[u8]) -> Field
+    requires { 0 < length row.now }
+    ensures within { length result.text.now + length result.rest.now ≤ length row.now }
+    ensures onward { length result.rest.now < length row.now }
+{
+    let word = skip_blanks(row);
+    match word.split_first() {
+        None => Field {
+            text: word,
+            rest: word,
+        },
+        Some((_, others)) => {
+            let (text, rest) = word.split_at(1 + word_length(others, Separator::Blank));
+            Field {
+                text,
+                rest: skip_blanks(rest),
+            }
+        }
+    }
+}
+
+// The field at the front of a row with a separator: what stands before the next one, without the blanks around it.
+fn next_cell(row: &[u8], separator: Separator) -> Field
+    requires { 0 < length row.now }
+    ensures within { length result.text.now + length result.rest.now ≤ length row.now }
+    ensures onward { length result.rest.now < length row.now }
+{
+    let (cell, left) = row.split_at(cell_end(row, separator));
+    Field {
+        text: trimmed(skip_blanks(cell), Separator::Blank),
+        rest: left.get(1..).unwrap_or(left),
+    }
+}
+
+// The field at the front of a row whose fields are parted so.
+pub fn next_field(row: &[u8], separator: Separator) -> Field
+    requires { 0 < length row.now }
+    ensures within { length result.text.now + length result.rest.now ≤ length row.now }
+    ensures onward { length result.rest.now < length row.now }
+{
+    match separator {
+        Separator::Blank => next_word(row),
+        _ => next_cell(row, separator),
+    }
+}
+
+// Whether a line ends here: with LF, or with CR where no LF follows.
+fn line_ends(text: &[u8]) -> bool {
+    match text {
+        [b'\n', ..] => true,
+        [b'\r', b'\n', ..] => false,
+        [b'\r', ..] => true,
         _ => false,
     }
 }
 
-// The place of the first byte that is no blank.
-pub fn skip_blanks(text: &[u8], at: usize, end: usize) -> usize
-    requires { (at ≤ end) × (end ≤ length text.now) }
-    ensures { (at ≤ result) × (result ≤ end) }
+// The first line of a text.
+pub fn next_line(text: &[u8]) -> Line
+    requires { 0 < length text.now }
+    ensures within { length result.text.now ≤ length text.now }
+    ensures onward { length result.rest.now < length text.now }
 {
-    let mut i = at;
-    while i < end {
-        if !is_blank(text[i]) {
-            return i;
-        }
-        i += 1;
-    }
-    end
-}
-
-// Whether a byte is the row's separator; one of the three where that is not known.
-fn parts(b: u8, mark: u8) -> bool {
-    if mark == ANY {
-        return is_mark(b);
-    }
-    b == mark
-}
-
-// The place of the first byte that a word cannot have.
-fn word_end(text: &[u8], at: usize, end: usize, mark: u8) -> usize
-    requires { (at ≤ end) × (end ≤ length text.now) }
-    ensures { (at ≤ result) × (result ≤ end) }
-{
-    let mut i = at;
-    while i < end {
-        if is_blank(text[i]) {
-            return i;
-        }
-        if parts(text[i], mark) {
-            return i;
-        }
-        i += 1;
-    }
-    end
-}
-
-// The place past one comma, semicolon or tab, where one is there.
-fn past_mark(text: &[u8], at: usize, end: usize) -> usize
-    requires { (at ≤ end) × (end ≤ length text.now) }
-    ensures { (at ≤ result) × (result ≤ end) }
-{
-    if at < end {
-        if is_mark(text[at]) {
-            return at + 1;
-        }
-    }
-    at
-}
-
-// A row's first field: empty where a comma, semicolon or tab is there already.
-pub fn first_field(text: &[u8], at: usize, end: usize) -> Field
-    requires { (at < end) × (end ≤ length text.now) }
-    ensures { (result.from ≤ result.to) × ((result.to ≤ result.next) × ((at < result.next) × (result.next ≤ end))) }
-{
-    let from = skip_blanks(text, at, end);
-    if end <= from {
-        return Field {
-            from: end,
-            to: end,
-            next: end,
-        };
-    }
-    if is_mark(text[from]) {
-        return Field {
-            from,
-            to: from,
-            next: from + 1,
-        };
-    }
-    let to = word_end(text, from + 1, end, ANY);
-    let next = past_mark(text, skip_blanks(text, to, end), end);
-    Field { from, to, next }
-}
-
-// Whether the byte after this one is inside quotation marks.
-fn inside(quoted: bool, b: u8) -> bool {
-    if b == b'"' {
-        return !quoted;
-    }
-    quoted
-}
-
-// The place of the next separator outside quotation marks; the end where there is none.
-fn cell_end(text: &[u8], at: usize, end: usize, mark: u8) -> usize
-    requires { (at ≤ end) × (end ≤ length text.now) }
-    ensures { (at ≤ result) × (result ≤ end) }
-{
-    let mut quoted = false;
-    let mut i = at;
-    while i < end {
-        if !quoted {
-            if parts(text[i], mark) {
-                return i;
-            }
-        }
-        quoted = inside(quoted, text[i]);
-        i += 1;
-    }
-    end
-}
-
-// What parts the fields of a row: its first comma, semicolon or tab outside quotation marks; a blank where there is none.
-pub fn separator(text: &[u8], at: usize, end: usize) -> u8
-    requires { (at ≤ end) × (end ≤ length text.now) }
-{
-    let place = cell_end(text, at, end, ANY);
-    if place < end {
-        return text[place];
-    }
-    BLANK
-}
-
-// The field at a place of a row that blanks part.
-fn next_word(text: &[u8], at: usize, end: usize) -> Field
-    requires { (at < end) × (end ≤ length text.now) }
-    ensures { (result.from ≤ result.to) × ((result.to ≤ result.next) × ((at < result.next) × (result.next ≤ end))) }
-{
-    let from = skip_blanks(text, at, end);
-    if end <= from {
-        return Field {
-            from: end,
-            to: end,
-            next: end,
-        };
-    }
-    let to = word_end(text, from + 1, end, BLANK);
-    Field {
-        from,
-        to,
-        next: skip_blanks(text, to, end),
-    }
-}
-
-// The field at a place of a row with a separator: what stands before the next one, without the blanks around it.
-fn next_cell(text: &[u8], at: usize, end: usize, mark: u8) -> Field
-    requires { (at < end) × (end ≤ length text.now) }
-    ensures { (result.from ≤ result.to) × ((result.to ≤ result.next) × ((at < result.next) × (result.next ≤ end))) }
-{
-    let stop = cell_end(text, at, end, mark);
-    let from = skip_blanks(text, at, stop);
-    let to = trimmed(text, from, stop, BLANK);
-    if stop < end {
-        return Field {
-            from,
-            to,
-            next: stop + 1,
-        };
-    }
-    Field {
-        from,
-        to,
-        next: end,
-    }
-}
-
-// The field at a place of a row whose fields are parted so.
-pub fn next_field(text: &[u8], at: usize, end: usize, mark: u8) -> Field
-    requires { (at < end) × (end ≤ length text.now) }
-    ensures { (result.from ≤ result.to) × ((result.to ≤ result.next) × ((at < result.next) × (result.next ≤ end))) }
-{
-    if mark == BLANK {
-        return next_word(text, at, end);
-    }
-    next_cell(text, at, end, mark)
-}
-
-// The end without the blanks and separators before it.
-pub fn trimmed(text: &[u8], from: usize, end: usize, mark: u8) -> usize
-    requires { (from ≤ end) × (end ≤ length text.now) }
-    ensures { (from ≤ result) × (result ≤ end) }
-{
-    let mut stop = end;
-    while from < stop {
-        let b = text[stop - 1];
-        if !is_blank(b) {
-            if !parts(b, mark) {
-                return stop;
-            }
-        }
-        stop -= 1;
-    }
-    from
-}
-
-// Whether a line ends at a place: with LF, or with CR where no LF follows.
-fn line_ends(text: &[u8], i: usize) -> bool
-    requires { i < length text.now }
-{
-    if text[i] == b'\n' {
-        return true;
-    }
-    if text[i] != b'\r' {
-        return false;
-    }
-    if text.len() - i < 2 {
-        return true;
-    }
-    text[i + 1] != b'\n'
-}
-
-// The line at a place.
-pub fn next_line(text: &[u8], at: usize) -> Line
-    requires { at < length text.now }
-    ensures { (at ≤ result.end) × ((result.end ≤ length text.now) × ((at < result.next) × (result.next ≤ length text.now))) }
-{
-    let mut i = at;
-    while i < text.len() {
-        if line_ends(text, i) {
+    for i in 0..text.len() {
+        if line_ends(&text[i..]) {
             return Line {
-                end: i,
-                next: i + 1,
+                text: &text[..i],
+                rest: &text[i + 1..],
             };
         }
-        i += 1;
     }
     Line {
-        end: text.len(),
-        next: text.len(),
+        text,
+        rest: &text[text.len()..],
     }
 }
 
-// The place of the first line: past the mark of UTF-8 that spreadsheets put at the start.
-pub fn first_line(text: &[u8]) -> usize
-    ensures { result ≤ length text.now }
+// The text past the mark of UTF-8 that spreadsheets put at the start.
+pub fn past_utf8_mark(text: &[u8]) -> &[u8]
+    ensures { length result.now ≤ length text.now }
 {
-    if text.len() < 3 {
-        return 0;
+    if text.starts_with(b"\xef\xbb\xbf") {
+        &text[3..]
+    } else {
+        text
     }
-    if text[0] != 239 {
-        return 0;
-    }
-    if text[1] != 187 {
-        return 0;
-    }
-    if text[2] != 191 {
-        return 0;
-    }
-    3
 }
 
-fn wide(b: u8) -> u64 {
-    b as u64
-}
-
-// The value of a digit; 10 for any other byte.
-fn digit(b: u64) -> u64
-    ensures { result ≤ 10 }
-{
-    if b < 48 {
-        return 10;
+// The number that is the whole field: digits after at most one minus. One too great for 64 bits is the greatest of them, or the least.
+pub fn read_number(field: &[u8]) -> Option<i64> {
+    match field.split_first() {
+        Some((b'-', digits)) => Some(read_digits(digits)?.saturating_neg()),
+        _ => read_digits(field),
     }
-    if 57 < b {
-        return 10;
-    }
-    b - 48
-}
-
-// The number with one more digit; one that is great already stays.
-fn with_digit(value: u64, d: u64) -> u64
-    requires { d < 10 }
-{
-    if GREAT < value {
-        return value;
-    }
-    value * 10 + d
 }
 
 // Digits to the end, at least one.
-fn read_digits(text: &[u8], from: usize, to: usize, minus: bool) -> Number
-    requires { to ≤ length text.now }
-{
-    let mut value: u64 = 0;
-    let mut i = from;
-    while i < to {
-        let d = digit(wide(text[i]));
-        if 9 < d {
-            return Number {
-                good: false,
-                minus,
-                value: 0,
-            };
+fn read_digits(digits: &[u8]) -> Option<i64> {
+    if digits.is_empty() {
+        return None;
+    }
+    let mut value: i64 = 0;
+    for &b in digits {
+        if !b.is_ascii_digit() {
+            return None;
         }
-        value = with_digit(value, d);
-        i += 1;
+        value = value.saturating_mul(10).saturating_add(i64::from(b - b'0'));
     }
-    if value == 0 {
-        return Number {
-            good: from < to,
-            minus: false,
-            value,
-        };
-    }
-    Number {
-        good: from < to,
-        minus,
-        value,
-    }
+    Some(value)
 }
 
-// The number that is the whole field.
-pub fn read_number(text: &[u8], from: usize, to: usize) -> Number
-    requires { to ≤ length text.now }
+// COUNT*VALUE, parted at its star.
+pub fn at_star(field: &[u8]) -> Option<(&[u8], &[u8])>
+    ensures { IfSome result (λ p. length p.0.now + 1 + length p.1.now ≡ length field.now) }
 {
-    if from < to {
-        if text[from] == b'-' {
-            return read_digits(text, from + 1, to, true);
-        }
-    }
-    read_digits(text, from, to, false)
-}
-
-// The place of the star in COUNT*VALUE; the field's end where there is none.
-pub fn star(text: &[u8], from: usize, to: usize) -> usize
-    requires { (from ≤ to) × (to ≤ length text.now) }
-    ensures { (from ≤ result) × (result ≤ to) }
-{
-    let mut i = from;
-    while i < to {
-        if text[i] == b'*' {
-            return i;
-        }
-        i += 1;
-    }
-    to
+    let star = field.iter().position(|&b| b == b'*')?;
+    Some((&field[..star], &field[star + 1..]))
 }
 
 // Bytes into a buffer from a place on; the place past them.
@@ -392,12 +262,9 @@ pub fn put_bytes(out: &mut [u8], at: usize, s: &[u8]) -> usize
     requires { at + length s.now ≤ length out.old }
     ensures { (result ≡ at + length s.now) × (length out.new ≡ length out.old) }
 {
-    let mut i = 0;
-    while i < s.len() {
-        out[at + i] = s[i];
-        i += 1;
-    }
-    at + i
+    let end = at + s.len();
+    out[at..end].copy_from_slice(s);
+    end
 }
 
 // Words, where the buffer has room for them.
@@ -409,15 +276,4 @@ pub fn say(out: &mut [u8], at: usize, words: &[u8]) -> usize
         return at;
     }
     put_bytes(out, at, words)
-}
-
-// A number, where the buffer has room for 20 digits.
-pub fn say_number(out: &mut [u8], at: usize, n: u64) -> usize
-    requires { at ≤ length out.old }
-    ensures { Said out.old result out.new }
-{
-    if out.len() - at < 20 {
-        return at;
-    }
-    vbk_text::put_decimal(out, at, n)
 }

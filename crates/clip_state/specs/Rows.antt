@@ -1,9 +1,11 @@
 -- Rows and lines of a clip's text.
-use Rattle.std.specs.Prelude.{cond, ℕ, ◌+◌, eqb}
+use Rattle.std.specs.Prelude.{cond, ℕ, ◌+◌, eqb, Option, Some, None}
+use Rattle.clip_told.specs.declared.Row.{Row}
+use Rattle.clip_told.specs.declared.Row.TheVariants.{Samples, Record, Tokens}
 
--- which row a letter names: S samples, R a record, K more tokens of the last record; 0 is none
-unfoldable pub letter_row : ℕ → ℕ
-letter_row b = cond (eqb b 83) 2 (cond (eqb b 82) 3 (cond (eqb b 75) 4 0))
+-- which row a letter names: S samples, R a record, K more tokens of the last record
+unfoldable pub letter_row : ℕ → Option Row
+letter_row b = cond (eqb b 83) (Some Samples) (cond (eqb b 82) (Some Record) (cond (eqb b 75) (Some Tokens) None))
 
 -- lines are counted one by one, as far as 64 bits go
 unfoldable pub line_after : ℕ → ℕ

@@ -3,161 +3,81 @@
 
 ghost use Rattle.std.specs.Prelude.{◌≡◌, ◌+◌, ◌*◌, ◌≤◌};
 ghost use Rattle.clip_state.specs.Rows.{letter_row, line_after};
-ghost use Rattle.clip_state.specs.Inner.{Held};
 
-use clip_told::{
-    EMPTY_TEXT, MORE, NO_HEADER, NO_ROW, NOTHING, OVER, RECORD_ROW, SAMPLE_COUNT, SAMPLE_ROW,
-    State, TOKEN_COUNT, TOKEN_ROW,
-};
+use clip_told::{Column, Fault, Plane, Row, Told};
 
 // So many things that are wrong are told, and that there are more.
 pub const MOST: u64 = 20;
 
-// a + b, or the greatest number.
-pub fn plus(a: u64, b: u64) -> u64 {
-    if 18446744073709551615 - a < b {
-        return 18446744073709551615;
-    }
-    a + b
+// What the file so far takes: it has room for every record taken and for its tokens, and is no longer than a file may be.
+#[derive(Clone, Copy)]
+pub struct Extent {
+    pub records: usize,
+    // where the last record's tokens begin, and how many it needs
+    pub start: usize,
+    pub need: usize,
+    pub length: usize,
+    pub ghost records_fit: { 75 * records ≤ length },
+    pub ghost tokens_fit: { 4 * (start + need) ≤ length },
+    pub ghost is_short: { length ≤ 65535 },
 }
 
-// Nothing is read yet.
-pub fn nothing() -> State
-    ensures { Held result }
-{
-    State {
-        line: 0,
-        row: NO_ROW,
-        mark: 0,
-        wrong: NOTHING,
-        column: 0,
-        from: 0,
-        to: 0,
-        limit: 0,
-        asked: 0,
-        rest: 0,
-        faults: 0,
-        said: 0,
-        spoiled: false,
-        header_line: 0,
-        depth: 0,
-        width: 0,
-        height: 0,
-        samples: 0,
-        over: 0,
-        over_line: 0,
-        over_column: 0,
-        met: 0,
-        records: 0,
-        record_line: 0,
-        size: 0,
-        start: 0,
-        need: 0,
-        given: 0,
-        length: 0,
-    }
+// What the header says, and its line.
+#[derive(Clone, Copy)]
+pub struct Header {
+    pub line: u64,
+    pub depth: u8,
+    pub plane: Plane,
 }
 
-pub fn fail(s: State, wrong: u8) -> State
-    requires { Held s }
-    ensures { Held result }
-{
-    let mut t = s;
-    t.wrong = wrong;
-    t
+// Samples above the depth's range: how many, and where the first is.
+#[derive(Clone, Copy)]
+pub struct Over {
+    pub line: u64,
+    pub column: Column,
+    pub count: u64,
+    pub depth: u8,
 }
 
-// What is wrong, with the number to tell beside it.
-pub fn fail_with(s: State, wrong: u8, limit: u64) -> State
-    requires { Held s }
-    ensures { Held result }
-{
-    let mut t = s;
-    t.wrong = wrong;
-    t.limit = limit;
-    t
+// The last record taken: its line and size, and how many tokens were given.
+#[derive(Clone, Copy)]
+pub struct Record {
+    pub line: u64,
+    pub size: u8,
+    pub given: u64,
 }
 
-// Which row the letter at a place names.
-pub fn letter_row(b: u8) -> u8
+// What was read of a text.
+#[derive(Clone, Copy)]
+pub struct State {
+    // lines that were read, and the last row of them
+    pub line: u64,
+    pub row: Option<Row>,
+    // how many faults were told, how long their words are; whether samples or tokens are missing for one of them, so that their count tells
+    // nothing
+    pub faults: u64,
+    pub said: usize,
+    pub spoiled: bool,
+    pub header: Option<Header>,
+    // samples that were given, and those above the depth's range
+    pub samples: u64,
+    pub over: Option<Over>,
+    // records whose row was met, and those taken
+    pub met: u64,
+    pub record: Option<Record>,
+    pub extent: Extent,
+}
+
+// Which row the letter of a first field names.
+pub fn letter_row(b: u8) -> Option<Row>
     ensures { result ≡ letter_row b }
 {
     match b {
-        b'S' => SAMPLE_ROW,
-        b'R' => RECORD_ROW,
-        b'K' => TOKEN_ROW,
-        _ => NO_ROW,
+        b'S' => Some(Row::Samples),
+        b'R' => Some(Row::Record),
+        b'K' => Some(Row::Tokens),
+        _ => None,
     }
-}
-
-// The file begins, with room for its samples.
-pub fn begin_file(s: State, n: usize) -> State
-    requires { (Held s) × (n ≤ 4096) }
-    ensures { Held result }
-{
-    if s.records != 0 {
-        return s;
-    }
-    let mut t = s;
-    t.start = 0;
-    t.need = 0;
-    t.length = 10 + 2 * n;
-    t
-}
-
-// What the header says.
-pub fn with_header(s: State, depth: u8, width: u16, height: u16) -> State
-    requires { Held s }
-    ensures { Held result }
-{
-    let mut t = s;
-    t.header_line = s.line;
-    t.depth = depth;
-    t.width = width;
-    t.height = height;
-    t
-}
-
-// As fail; the line to tell is that of the row that asked for so many.
-pub fn fail_count(s: State, wrong: u8, line: u64) -> State
-    requires { Held s }
-    ensures { Held result }
-{
-    let mut t = s;
-    t.wrong = wrong;
-    t.asked = line;
-    t
-}
-
-// The samples, or the last record's tokens, are as many as were asked for; where some are missing for another reason, that was told.
-pub fn close(s: State) -> State
-    requires { Held s }
-    ensures { Held result }
-{
-    if s.spoiled {
-        return s;
-    }
-    if s.met == 0 {
-        let n = vbk_read::plane_area(s.width, s.height) as u64;
-        if s.samples == n {
-            return s;
-        }
-        return fail_count(s, SAMPLE_COUNT, s.header_line);
-    }
-    if s.given == s.need as u64 {
-        return s;
-    }
-    fail_count(s, TOKEN_COUNT, s.record_line)
-}
-
-// The row of one more record is met.
-pub fn meet(s: State) -> State
-    requires { Held s }
-    ensures { Held result }
-{
-    let mut t = s;
-    t.met = plus(s.met, 1);
-    t
 }
 
 // The number of tokens that a size asks for.
@@ -172,90 +92,207 @@ pub fn tokens_of(size: u8) -> usize
     }
 }
 
-// A record begins, for which the file has room.
-pub fn begin_record(s: State, size: u8, need: usize) -> State
-    requires { (Held s) × ((16 ≤ need) × (s.length + 11 + 4 * need ≤ 65535)) }
-    ensures { Held result }
-{
-    let mut t = s;
-    t.records = s.records + 1;
-    t.record_line = s.line;
-    t.size = size;
-    t.start = s.start + s.need;
-    t.need = need;
-    t.given = 0;
-    t.spoiled = false;
-    t.length = s.length + 11 + 4 * need;
-    t
-}
-
-// One line further.
-pub fn next_line(s: State) -> State
-    requires { Held s }
-    ensures { (Held result) × (result.line ≡ line_after s.line) }
-{
-    if s.line == 18446744073709551615 {
-        return s;
-    }
-    let mut t = s;
-    t.line = s.line + 1;
-    t
-}
-
-// A text without a header, where nothing else is wrong.
-fn headless(s: State) -> State
-    requires { Held s }
-    ensures { Held result }
-{
-    if s.line == 0 {
-        return fail(s, EMPTY_TEXT);
-    }
-    fail(s, NO_HEADER)
-}
-
-// The text ends: there was a header, and what it and the last record asked for.
-pub fn finish(s: State) -> State
-    requires { Held s }
-    ensures { Held result }
-{
-    if s.faults == 0 {
-        if s.header_line == 0 {
-            return headless(s);
+impl Extent {
+    // Of no file.
+    fn none() -> Extent
+        ensures { result.length ≡ 0 }
+    {
+        Extent {
+            records: 0,
+            start: 0,
+            need: 0,
+            length: 0,
         }
     }
-    close(s)
-}
 
-// What is to be told: past the twentieth, that there is more.
-pub fn to_tell(s: State) -> State
-    requires { Held s }
-    ensures { Held result }
-{
-    if s.faults < MOST {
-        return s;
+    // Of a file of so many samples.
+    fn of_samples(n: usize) -> Extent
+        requires { n ≤ 4096 }
+        ensures { result.length ≡ 10 + 2 * n }
+    {
+        Extent {
+            records: 0,
+            start: 0,
+            need: 0,
+            length: 10 + 2 * n,
+        }
     }
-    fail(s, MORE)
+
+    // With one more record, for which there is room.
+    fn with_record(self, need: usize) -> Extent
+        requires { (16 ≤ need) × (self.length + 11 + 4 * need ≤ 65535) }
+        ensures { (result.records ≡ self.records + 1) × ((result.start ≡ self.start + self.need) × (result.need ≡ need)) }
+    {
+        Extent {
+            records: self.records + 1,
+            start: self.start + self.need,
+            need,
+            length: self.length + 11 + 4 * need,
+        }
+    }
 }
 
-// What was wrong is told, and reading goes on.
-pub fn go_past(s: State, said: usize) -> State
-    requires { Held s }
-    ensures { Held result }
-{
-    let mut t = s;
-    t.wrong = NOTHING;
-    t.asked = 0;
-    t.faults = plus(s.faults, 1);
-    t.said = said;
-    t.spoiled = true;
-    t
+impl State {
+    // Nothing is read yet.
+    pub fn nothing() -> State
+        ensures { (result.line ≡ 0) × (result.faults ≡ 0) }
+    {
+        State {
+            line: 0,
+            row: None,
+            faults: 0,
+            said: 0,
+            spoiled: false,
+            header: None,
+            samples: 0,
+            over: None,
+            met: 0,
+            record: None,
+            extent: Extent::none(),
+        }
+    }
+
+    // One line further.
+    #[tactic(auto, unfolding(crate::specs::Rows::line_after))]
+    pub fn next_line(&mut self)
+        ensures { self.new.line ≡ line_after self.old.line }
+    {
+        self.line = self.line.saturating_add(1);
+    }
+
+    // The file begins, with room for its samples; where it has records already, it began.
+    pub fn begin_file(&mut self, n: usize)
+        requires { n ≤ 4096 }
+        ensures { self.new.line ≡ self.old.line }
+    {
+        if self.extent.records == 0 {
+            self.extent = Extent::of_samples(n);
+        }
+    }
+
+    // The row of one more record is met.
+    pub fn meet(&mut self)
+        ensures { self.new.extent ≡ self.old.extent }
+    {
+        self.met = self.met.saturating_add(1);
+    }
+
+    // A record begins, for which the file has room.
+    pub fn begin_record(&mut self, size: u8, need: usize)
+        requires { (16 ≤ need) × (self.old.extent.length + 11 + 4 * need ≤ 65535) }
+        ensures { self.new.extent.records ≡ self.old.extent.records + 1 }
+    {
+        self.record = Some(Record {
+            line: self.line,
+            size,
+            given: 0,
+        });
+        self.spoiled = false;
+        self.extent = self.extent.with_record(need);
+    }
+
+    // The samples, or the last record's tokens, are as many as were asked for; where some are missing for another reason, that was told.
+    pub fn close(&self) -> Result<(), Fault<'static>> {
+        if self.spoiled {
+            return Ok(());
+        }
+        if self.met == 0 {
+            self.close_samples()
+        } else {
+            self.close_tokens()
+        }
+    }
+
+    fn close_samples(&self) -> Result<(), Fault<'static>> {
+        match self.header {
+            Some(Header { line, plane, .. })
+                if self.samples != vbk_read::plane_area(plane.width, plane.height) as u64 => {
+                Err(Fault::SampleCount {
+                    line,
+                    given: self.samples,
+                    plane,
+                })
+            }
+            _ => Ok(()),
+        }
+    }
+
+    fn close_tokens(&self) -> Result<(), Fault<'static>> {
+        match self.record {
+            Some(Record { line, size, given }) if given != self.extent.need as u64 => {
+                Err(Fault::TokenCount {
+                    line,
+                    given,
+                    size,
+                    need: self.extent.need,
+                })
+            }
+            _ => Ok(()),
+        }
+    }
+
+    // The text ends: there was a header, and what it and the last record asked for.
+    pub fn finish(&self) -> Result<(), Fault<'static>> {
+        if self.faults == 0 && self.header.is_none() {
+            return Err(if self.line == 0 {
+                Fault::EmptyText
+            } else {
+                Fault::NoHeader
+            });
+        }
+        self.close()
+    }
+
+    // The record whose row is read.
+    fn record_index(&self) -> Option<u64> {
+        match self.row {
+            Some(Row::Record | Row::Tokens) => self.met.checked_sub(1),
+            _ => None,
+        }
+    }
+
+    // A fault where it is to be told: past the twentieth, that there is more.
+    pub fn told<'a>(&self, fault: Fault<'a>) -> Told<'a> {
+        let line = asked_line(fault).unwrap_or(self.line);
+        Told {
+            line: if line == 0 { None } else { Some(line) },
+            record: self.record_index(),
+            fault: if self.faults < MOST {
+                fault
+            } else {
+                Fault::More
+            },
+        }
+    }
+
+    // A fault was told, and reading goes on.
+    pub fn go_past(&mut self, said: usize)
+        ensures { self.new.said ≡ said }
+    {
+        self.faults = self.faults.saturating_add(1);
+        self.said = said;
+        self.spoiled = true;
+    }
+
+    // The warning of samples above the depth's range, in the line of the first.
+    pub fn warning(&self) -> Option<Told<'static>> {
+        let over = self.over?;
+        Some(Told {
+            line: Some(over.line),
+            record: None,
+            fault: Fault::Over {
+                column: over.column,
+                count: over.count,
+                depth: over.depth,
+            },
+        })
+    }
 }
 
-// The samples above the depth's range, to be told in the line of the first.
-pub fn to_warn(s: State) -> State {
-    let mut t = s;
-    t.row = SAMPLE_ROW;
-    t.wrong = OVER;
-    t.asked = s.over_line;
-    t
+// The line of the row that asked for samples or tokens, where their count is wrong.
+fn asked_line(fault: Fault) -> Option<u64> {
+    match fault {
+        Fault::SampleCount { line, .. } | Fault::TokenCount { line, .. } => Some(line),
+        _ => None,
+    }
 }

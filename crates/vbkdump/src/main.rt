@@ -1,14 +1,8 @@
 // Reads a VBK file from standard input and writes its text to standard output. What is wrong is told on standard error.
 #![tactic(auto)]
 
-use clip_dump::Dumped;
-
 // Bytes that fill the room for a file.
 const FULL: usize = 65536;
-
-fn dump(file: &[u8], text: &mut [u8; 1048576]) -> Dumped {
-    clip_dump::dump(file, text)
-}
 
 // A file of 65,536 bytes or more fills its room, and is too large whatever follows.
 fn main(rt: HostRuntime) {
@@ -23,12 +17,12 @@ fn main(rt: HostRuntime) {
             return;
         }
     }
-    let dumped = dump(&file[..n], &mut text);
-    clip_io::hand_text(
-        &mut rt.stdout(),
-        &mut errors,
-        dumped.good,
-        &text,
-        dumped.length,
-    );
+    match clip_dump::dump(&file[..n], &mut text) {
+        Ok(length) => clip_io::put_out(
+            &mut rt.stdout(),
+            &mut errors,
+            clip_io::front(&text, length),
+        ),
+        Err(length) => clip_io::tell(&mut errors, clip_io::front(&text, length)),
+    }
 }

@@ -12,8 +12,8 @@ fn make<O: Write, E: Write>(output: &mut O, errors: &mut E, text: &[u8; 1048576]
     let mut words = streams::buffer();
     let made = clip_make::make(clip_io::front(text, n), &mut out, &mut words);
     clip_io::tell(errors, clip_io::front(&words, made.said));
-    if made.good {
-        clip_io::put_out(output, errors, clip_io::front(&out, made.length));
+    if let Some(length) = made.file {
+        clip_io::put_out(output, errors, clip_io::front(&out, length));
     }
 }
 

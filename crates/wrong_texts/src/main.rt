@@ -2,27 +2,22 @@
 // and the first bytes of it, which show each number of a header and of a record in its place.
 #![tactic(auto)]
 
-ghost use Rattle.std.specs.Prelude.{◌≤◌, ◌<◌, length};
+ghost use Rattle.std.specs.Prelude.{◌≤◌, length};
 
 use std::io::Write;
+
+// Bytes of a mark, its line's end among them.
+const MARK_BYTES: usize = 5;
 
 fn put<O: Write>(output: &mut O, words: &[u8]) {
     streams::write_all(output, words);
 }
 
 // The place of the next line `====`; the end where there is none.
-fn next_mark(all: &[u8], from: usize) -> usize
-    requires { from ≤ length all.now }
-    ensures { (from ≤ result) × (result ≤ length all.now) }
+fn next_mark(all: &[u8]) -> usize
+    ensures { result ≤ length all.now }
 {
-    let mut i = from;
-    while i < all.len() {
-        if all[i] == b'=' {
-            return i;
-        }
-        i += 1;
-    }
-    all.len()
+    all.iter().position(|&b| b == b'=').unwrap_or(all.len())
 }
 
 // A byte as a number, after a blank.
@@ -32,10 +27,8 @@ fn put_byte<O: Write>(output: &mut O, b: u8) {
 }
 
 fn put_bytes<O: Write>(output: &mut O, bytes: &[u8]) {
-    let mut i = 0;
-    while i < bytes.len() {
-        put_byte(output, bytes[i]);
-        i += 1;
+    for &b in bytes {
+        put_byte(output, b);
     }
 }
 
@@ -52,21 +45,21 @@ fn tell<O: Write>(output: &mut O, text: &[u8]) {
     let mut words = streams::buffer();
     let made = clip_make::make(text, &mut out, &mut words);
     put(output, clip_io::front(&words, made.said));
-    if made.good {
-        put_file(output, clip_io::front(&out, made.length));
+    if let Some(length) = made.file {
+        put_file(output, clip_io::front(&out, length));
     }
 }
 
-// The texts one after the other; a mark has five bytes, its line's end among them.
+// The texts one after the other.
 fn tell_all<O: Write>(output: &mut O, all: &[u8]) {
-    let mut at = 0;
-    while at < all.len() {
-        let end = next_mark(all, at);
-        tell(output, &all[at..end]);
-        if all.len() - end < 5 {
-            return;
+    let mut rest = all;
+    while !rest.is_empty() {
+        let (text, mark) = rest.split_at(next_mark(rest));
+        tell(output, text);
+        match mark.get(MARK_BYTES..) {
+            Some(next) => rest = next,
+            None => return,
         }
-        at = end + 5;
     }
 }
 

@@ -39,4 +39,4 @@ returns c =
     let w = whole_next a.file.now a.from d c.requires.1.0 z in
     let t = whole_there a.file.now a.from d c.requires.1.0 z in
     let o = c.put_record.ensures in
-    (omega (arith, q, w, t, c.requires.0, o.0), (omega (arith, w), (t, omega (arith, o.1))))
+    record { step = (omega (arith, q, w, t, c.requires.0, o.0), (omega (arith, w), t)); room = omega (arith, o.1) }
