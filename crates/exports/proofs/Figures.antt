@@ -32,19 +32,19 @@ module _ (s samples answers room : List ℕ) where
       let x : export_answer s samples answers room ≡ 6 = rw (lt-leb FIGURES (length room) h) in
       record { answered = e ∙ sym x; samples_are = rw x; answers_are = rw x; figures_are = rw x }
 
-  module _ (h : FIGURES ≤ length room) {samples' answers' : List ℕ} where
+  module _ (h : FIGURES ≤ length room) where
     same : export_answer s samples answers room ≡ run_answer s samples answers
     unfolding export_answer
     same = rw (le-leb FIGURES (length room) h)
 
-    pub refused : {a : Refusal} → Replayed s samples answers (Err a) samples' answers' → {n : ℕ} → n ≡ refusal_number a → RunTold s samples answers room n samples' answers' room
-    refused {a} d {n} e =
+    pub refused : {samples' answers' : List ℕ} {a : Refusal} → Replayed s samples answers (Err a) samples' answers' → {n : ℕ} → n ≡ refusal_number a → RunTold s samples answers room n samples' answers' room
+    refused {a = a} d {n} e =
         let is : n ≡ run_answer s samples answers = e ∙ d.answered in
         let b : eqb (run_answer s samples answers) 0 ≡ false = ne_eqb (run_answer s samples answers) 0 (λ q. refused_number a (d.answered ∙ q)) in
         record { answered = is ∙ sym same; samples_are = rw same d.samples_are; answers_are = rw same d.answers_are; figures_are = rw (same, b) }
 
-    pub done : {r : Run} → Replayed s samples answers (Ok r) samples' answers' → {room' : List ℕ} → room' ≡ r.fields.depth ∷ r.fields.width ∷ r.fields.height ∷ r.count ∷ r.touched ∷ drop FIGURES room → RunTold s samples answers room 0 samples' answers' room'
+    pub done : {samples' answers' : List ℕ} {r : Run} → Replayed s samples answers (Ok r) samples' answers' → {room' : List ℕ} → room' ≡ r.fields.depth ∷ r.fields.width ∷ r.fields.height ∷ r.count ∷ r.touched ∷ drop FIGURES room → RunTold s samples answers room 0 samples' answers' room'
     unfolding figures
-    done {r} d p =
+    done {r = r} d p =
         let zero : run_answer s samples answers ≡ 0 = sym d.answered in
         record { answered = d.answered ∙ sym same; samples_are = rw same d.samples_are; answers_are = rw same d.answers_are; figures_are = p ∙ rw (same, zero, d.told.fields_are, d.told.count_is, d.told.touched_is) }

@@ -3,12 +3,11 @@ use mathlib.Core.Path.{◌≡◌, sym, ap, ◌∙◌}
 use mathlib.Core.List.{List}
 use Prim.Native.Nat.{ℕ}
 use borrow.Author.Tests.{eq-eqb, ne_eqb}
-use lib.ListN.{length, set}
+use lib.ListN.{set}
 use Rattle.std.specs.Prelude.{Ok, Err}
 use Rattle.answers.specs.Answers.{refusal_number}
 use Rattle.answers.specs.declared.Refusal.{Refusal}
 use Rattle.answers.proofs.Numbers.{refused_number}
-use Rattle.vbk_write.specs.Lent.{file_of}
 use Rattle.vbk_write.specs.Promises.{Wrote}
 use Rattle.exports.specs.Told.{Told}
 use Rattle.exports.specs.Write.{Request, Buffer, request_answer, buffer_after}

@@ -183,7 +183,7 @@ fn give_rounded(block: &mut [i64], work: &[i16; 1024], count: usize, bits: u32)
     ensures { block.new ≡ fill count (λ k. rounded (get_or work.now k (pos 0)) bits) block.old }
 {
     for k in 0..count {
-        block[k] = words::long(round2(narrow::wide(work[k]), bits));
+        block[k] = i64::from(round2(narrow::wide(work[k]), bits));
     }
 }
 
@@ -226,7 +226,7 @@ fn give_flat(block: &mut [i64], x: i16, n: u32, count: usize)
     ensures { block.new ≡ fill count (λ k. dc_value n x) block.old }
 {
     let v = flat_value(narrow::wide(x), n);
-    dc::fill_first(block, count, words::long(v));
+    dc::fill_first(block, count, i64::from(v));
 }
 
 // The residual of the block, in its place, with no number wider than 32 bits on the way. The block is written when every row and column has passed.

@@ -9,7 +9,7 @@ use native.Mathlib.Omega.{arith}
 use borrow.Author.Tests.{ltb-true, ltb-false, eqb-true, lt-ltb, le-ltb, eq-eqb, leb-false, lt-leb}
 use lib.Dec.{leb, ltb, eqb}
 use lib.ListN.{length}
-use Rattle.answers.specs.Answers.{number, lowest}
+use Rattle.answers.specs.Answers.{lowest}
 use Rattle.answers.specs.Limits.{FILE_LIMIT, AREA_LIMIT}
 use Rattle.answers.specs.Bad.{bad_depth, bad_size}
 use Rattle.answers.proofs.Numbers.{Applies, there}

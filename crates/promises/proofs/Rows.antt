@@ -13,8 +13,8 @@ use Rattle.answers.specs.Limits.{COEF_LIMIT, codeable}
 use Rattle.answers.specs.Sizes.{side, area}
 use Rattle.answers.specs.Bad.{bad_depth, bad_size, bad_side, bad_quantizer, bad_room}
 use Rattle.answers.proofs.Numbers.{Applies, there}
-use Rattle.summary.specs.declared.RowSummary.{RowSummary}
-use Rattle.summary.specs.declared.RowSummary.TheVariants.{Rows, Refused}
+use Rattle.std.specs.Prelude.{Result, Ok, Err}
+use Rattle.answers.specs.declared.Refusal.{Refusal}
 use Rattle.summary.specs.Summary.{summary_of, summarized}
 use Rattle.summary.specs.Replace as Z
 use Rattle.idct.specs.Driver as D
@@ -27,7 +27,7 @@ use Rattle.promises.proofs.Tests as T
 use Rattle.promises.proofs.When.{no_side, side_test, driver_exactly}
 
 -- ---- the row summary
-numbered : (a b : Bool) (m : ℕ) → summary_number (cond a (Refused Size) (cond b (Refused Length) (Rows m))) ≡ lowest ((2, a) ∷ (6, b) ∷ [])
+numbered : (a b : Bool) (m : ℕ) → summary_number (cond a (Err Size) (cond b (Err Length) (Ok m))) ≡ lowest ((2, a) ∷ (6, b) ∷ [])
 numbered true b m = refl
 numbered false true m = refl
 numbered false false m = refl
@@ -41,7 +41,7 @@ summary_has n block k (W.Summary.side h) = here_if 2 _ _ (side_test n h)
 summary_has n block k (W.Summary.room h) = there (here_if 6 _ _ (lt-ltb (length block) (area n) h))
 
 -- `row_summary`
-pub summary_when : (n : ℕ) (block : List ℤ) (r : RowSummary) → r ≡ summarized n block → Exactly (W.Summary n block) (summary_number r)
+pub summary_when : (n : ℕ) (block : List ℤ) (r : Result ℕ Refusal) → r ≡ summarized n block → Exactly (W.Summary n block) (summary_number r)
 summary_when n block r p =
     subst (λ (k : ℕ). Exactly (W.Summary n block) k) (sym (ap summary_number p ∙ summary_number_lem n block))
     (exactly (W.Summary n block) _ tt

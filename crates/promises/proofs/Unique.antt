@@ -10,8 +10,8 @@ use denote.Ref.{Bor}
 use Rattle.answers.specs.Answers.{Answer, number}
 use Rattle.answers.specs.Limits.{codeable}
 use Rattle.answers.proofs.Numbers.{number_injective}
-use Rattle.summary.specs.declared.Row.{Row}
-use Rattle.summary.specs.declared.RowSummary.{RowSummary}
+use Rattle.std.specs.Prelude.{Option, Result}
+use Rattle.answers.specs.declared.Refusal.{Refusal}
 use Rattle.summary.specs.Summary.{set_rows, first_of, last_of, summarized}
 use Rattle.summary.specs.Replace as Z
 use Rattle.idct.specs.Driver as D
@@ -56,7 +56,7 @@ rows_unique u a b k l s t p q =
     (same_answer (D.answer_of u) a b p.answered q.answered, same p.counted q.counted, same p.written q.written)
 
 -- `row_summary`
-pub summary_unique : (n : ℕ) (block : List ℤ) (r t : RowSummary) → r ≡ summarized n block → t ≡ summarized n block → r ≡ t
+pub summary_unique : (n : ℕ) (block : List ℤ) (r t : Result ℕ Refusal) → r ≡ summarized n block → t ≡ summarized n block → r ≡ t
 summary_unique n block r t p q = same p q
 
 -- `row_count` and its export
@@ -64,14 +64,14 @@ pub row_count_unique : (m r t : ℕ) → r ≡ length (set_rows m) → t ≡ len
 row_count_unique m r t p q = same p q
 
 -- `first_row` and `last_row`
-pub first_row_unique : (m : ℕ) (r t : Row) → r ≡ first_of (set_rows m) → t ≡ first_of (set_rows m) → r ≡ t
+pub first_row_unique : (m : ℕ) (r t : Option ℕ) → r ≡ first_of (set_rows m) → t ≡ first_of (set_rows m) → r ≡ t
 first_row_unique m r t p q = same p q
 
-pub last_row_unique : (m : ℕ) (r t : Row) → r ≡ last_of (set_rows m) → t ≡ last_of (set_rows m) → r ≡ t
+pub last_row_unique : (m : ℕ) (r t : Option ℕ) → r ≡ last_of (set_rows m) → t ≡ last_of (set_rows m) → r ≡ t
 last_row_unique m r t p q = same p q
 
 -- `bracetwill_first_row` and `bracetwill_last_row`
-pub row_told_unique : (row : Row) (r t : ℤ) → r ≡ row_number row → t ≡ row_number row → r ≡ t
+pub row_told_unique : (row : Option ℕ) (r t : ℤ) → r ≡ row_number row → t ≡ row_number row → r ≡ t
 row_told_unique row r t p q = same p q
 
 -- `replace_token`

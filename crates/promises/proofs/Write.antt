@@ -9,7 +9,6 @@ use borrow.Author.Tests.{ltb-true, lt-ltb, eqb-true, eq-eqb}
 use lib.Dec.{ltb, eqb}
 use lib.ListN.{length, get_or}
 use Rattle.whole.proofs.Tests.{any_hit}
-use Rattle.answers.specs.Answers.{number}
 use Rattle.answers.specs.Limits.{AREA_LIMIT, FILE_LIMIT}
 use Rattle.answers.specs.Bad.{bad_depth, retired}
 use Rattle.answers.specs.Sizes.{area}

@@ -27,7 +27,7 @@ fn total_of(counts: &[u32; 44]) -> u64
 {
     let mut total = 0u64;
     for k in 0..44usize {
-        total += words::wide32(counts[k]);
+        total += u64::from(counts[k]);
     }
     total
 }
@@ -49,7 +49,7 @@ fn bad_sums(counts: &[u32; 44], sums: &[u64; 44]) -> bool
 {
     let mut bad = false;
     for k in 0..44usize {
-        if words::wide32(counts[k]) * TOKEN_LIMIT < sums[k] {
+        if u64::from(counts[k]) * TOKEN_LIMIT < sums[k] {
             bad = true;
         }
     }

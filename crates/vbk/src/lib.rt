@@ -101,7 +101,7 @@ fn rebuild<B: Reconstruct>(
     ensures written { B.beside samples.new blocks.new ≡ (rebuild_at B.rebuilds file.now at (B.beside samples.old blocks.old)).samples }
 {
     let n = answers::area(head.size as u32 + 2);
-    let mut tokens = words::zeros();
+    let mut tokens = [0i64; 1024];
     let start = head.next;
     start.read_tokens(file, n, &mut tokens);
     blocks.block(samples, fields, head, &tokens[..n])

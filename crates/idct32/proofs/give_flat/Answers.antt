@@ -18,6 +18,6 @@ flat_value-v-requires c =
 pub returns : goal.returns
 returns c =
     let x : rd w32 c.wide.result ≡ c.args.x = back w32 (lit< tt) c.wide.ensures.1 ∙ c.wide.ensures.0 ∙ to_z-of_z c.ranges.x in
-    let e : rd w64 c.long.result ≡ dc_value c.args.n c.args.x =
-    rd_ok w64 c.long.type_inv ∙ c.long.ensures ∙ rd_ok w32 c.flat_value-v.type_inv ∙ c.flat_value-v.ensures ∙ ap (dc_value c.args.n) x in
+    let e : rd w64 c.from.result ≡ dc_value c.args.n c.args.x =
+    rd_ok w64 c.from.type_inv ∙ c.from.ensures ∙ rd_ok w32 c.flat_value-v.type_inv ∙ c.flat_value-v.ensures ∙ ap (dc_value c.args.n) x in
     c.fill_first.ensures ∙ ap (λ (z : ℤ). fill c.args.count (λ k. z) c.args.block.now) e

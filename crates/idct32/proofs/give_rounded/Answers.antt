@@ -21,9 +21,9 @@ loop-k-preserved c =
     let l = c.loop-k in
     let a = c.args in
     let x : c.wide.result ≡ get_or a.work.now l.k (pos 0) = c.wide.ensures.0 ∙ to_z-of_z {w = w16} (record { sfits = c.wide-arg-1.given }) in
-    let e : c.long.result ≡ rounded (get_or a.work.now l.k (pos 0)) a.bits =
-    c.long.ensures ∙ to_z-of_z {w = w32} (record { sfits = c.round2.type_inv }) ∙ c.round2.ensures ∙ ap (λ (z : ℤ). rounded z a.bits) (back w32 (lit< tt) c.wide.ensures.1 ∙ x) in
-    let f = to_z-of_z {w = w64} {z = c.long.result} (record { sfits = c.long.type_inv }) in (
+    let e : c.from.result ≡ rounded (get_or a.work.now l.k (pos 0)) a.bits =
+    c.from.ensures ∙ to_z-of_z {w = w32} (record { sfits = c.round2.type_inv }) ∙ c.round2.ensures ∙ ap (λ (z : ℤ). rounded z a.bits) (back w32 (lit< tt) c.wide.ensures.1 ∙ x) in
+    let f = to_z-of_z {w = w64} {z = c.from.result} (record { sfits = c.from.type_inv }) in (
       search rules,
       fill_more _ _ _ l.invariant.1 (rw (f, e)),
       simp length-set l.invariant.2,

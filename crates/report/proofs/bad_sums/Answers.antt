@@ -6,17 +6,14 @@ use Rattle.whole.proofs.Tests.{any_none, any_hit}
 use Rattle.blocks.proofs.Live.{any_next}
 use Rattle.report.proofs.Above.{sums_are}
 use Rattle.report.proofs.bad_sums.Goals as goal
-use Rattle.report.proofs.bad_sums.Goals.{else-wide32-sums, then-wide32-sums}
-
-pub overflow_mul-wide32 : goal.overflow_mul-wide32
-overflow_mul-wide32 c = omega (arith, c.wide32.ensures.1)
+use Rattle.report.proofs.bad_sums.Goals.{else-from-sums, then-from-sums}
 
 pub loop-k-preserved : goal.loop-k-preserved
 loop-k-preserved c =
-    let w = c.wide32 in
+    let w = c.from in
     let a = c.args in (
       omega arith,
-      elim c.if-wide32-sums.branch [ then-wide32-sums h ↦ h.bad-is ∙ sym (any_hit _ c.loop-k.k (c.loop-k.k + 1) (omega arith) (rw w.ensures.0 at (lt-ltb _ _ h.if-wide32-sums.true))) | else-wide32-sums h ↦ any_next _ c.loop-k.k (h.bad-is ∙ c.loop-k.invariant.1) (rw w.ensures.0 at (le-ltb _ _ h.if-wide32-sums.false)) ],
+      elim c.if-from-sums.branch [ then-from-sums h ↦ h.bad-is ∙ sym (any_hit _ c.loop-k.k (c.loop-k.k + 1) (omega arith) (rw w.ensures at (lt-ltb _ _ h.if-from-sums.true))) | else-from-sums h ↦ any_next _ c.loop-k.k (h.bad-is ∙ c.loop-k.invariant.1) (rw w.ensures at (le-ltb _ _ h.if-from-sums.false)) ],
     )
 
 pub returns : goal.returns

@@ -4,12 +4,9 @@ use lib.ListN.{get_or}
 use Rattle.report.proofs.Above.{sum_none, sum_more, total_is}
 use Rattle.report.proofs.total_of.Goals as goal
 
-pub overflow_add-total : goal.overflow_add-total
-overflow_add-total c = omega (arith, c.wide32-total.ensures.1, c.loop-k.invariant.1)
-
 pub loop-k-preserved : goal.loop-k-preserved
 loop-k-preserved c =
-    (omega arith, omega (arith, c.wide32-total.ensures.1, c.loop-k.invariant.1), rw c.wide32-total.ensures.0 (sum_more (λ j. get_or c.args.counts.now j 0) c.loop-k.k c.loop-k.invariant.2))
+    (omega arith, omega (arith, c.from-total.ensures, c.loop-k.invariant.1), rw c.from-total.ensures (sum_more (λ j. get_or c.args.counts.now j 0) c.loop-k.k c.loop-k.invariant.2))
 
 pub returns : goal.returns
 returns c =

@@ -2,7 +2,7 @@ use mathlib.Core.Path.{◌≡◌, sym, ap, ◌∙◌}
 use lib.IntN.{ℤ}
 use mir.Val.{of_z}
 use Rattle.std.specs.Int.{w32, to_le_bytes}
-use Rattle.words.proofs.Signed.{back32}
+use Rattle.vbk_read.proofs.Signed.{back32}
 use Rattle.vbk_text.proofs.Writing.{put_as, room_as}
 use Rattle.vbk_write.specs.Bytes.{four}
 use Rattle.vbk_write.proofs.Words.{four_is}

@@ -2,7 +2,7 @@ use mathlib.Core.Path.{sym, ap}
 use Prim.Native.Nat.{◌+◌}
 use lib.IntN.{pos}
 use lib.ListN.{get_or}
-use Rattle.words.proofs.Signed.{back32}
+use Rattle.vbk_read.proofs.Signed.{back32}
 use Rattle.vbk_text.proofs.Writing.{put_as, room_as, pieces_none, pieces_room, pieces_more, pieces_done, pieces_length}
 use Rattle.vbk_write.specs.Bytes.{four}
 use Rattle.vbk_write.specs.Lent.{tokens_from}

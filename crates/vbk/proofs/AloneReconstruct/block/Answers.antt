@@ -2,7 +2,7 @@ use mathlib.Core.Path.{◌≡◌, ◌∙◌}
 use lib.IntN.{pos}
 use mir.Syntax.{w32}
 use mir.Val.{to_z, of_z}
-use Rattle.words.proofs.Signed.{back32}
+use Rattle.vbk_read.proofs.Signed.{back32}
 use Rattle.vbk.proofs.Tokens.{answer_is, samples_are}
 use Rattle.vbk.proofs.AloneReconstruct.block.Goals as goal
 

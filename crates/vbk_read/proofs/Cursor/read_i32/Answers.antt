@@ -6,7 +6,7 @@ use Rattle.std.specs.Int.{w32, from_le_bytes}
 use lib.ListN.{get_or}
 use mathlib.Core.List.{[], ◌∷◌}
 use Rattle.vbk_read.specs.Bytes.{le4, signed32}
-use Rattle.words.proofs.Signed.{back32}
+use Rattle.vbk_read.proofs.Signed.{back32}
 use Rattle.vbk_read.proofs.Words.{word_is}
 use Rattle.vbk_read.proofs.Cursor.read_i32.Goals as goal
 

@@ -9,7 +9,7 @@ use mir.ValLaws.{to_z-of_z}
 use Rattle.whole.proofs.Lists.{fill_none, fill_more, fill_done}
 use Rattle.vbk_read.specs.Bytes.{le4, signed32}
 use Rattle.vbk_read.specs.Records.{token_at}
-use Rattle.words.proofs.Signed.{back32}
+use Rattle.vbk_read.proofs.Signed.{back32}
 use Rattle.vbk_read.proofs.Cursor.read_tokens.Goals as goal
 
 pub loop-k-init : goal.loop-k-init

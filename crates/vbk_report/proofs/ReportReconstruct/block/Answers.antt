@@ -2,7 +2,7 @@ use mathlib.Core.Path.{◌≡◌, ◌∙◌}
 use lib.IntN.{pos}
 use mir.Syntax.{w32}
 use mir.Val.{to_z, of_z}
-use Rattle.words.proofs.Signed.{back32}
+use Rattle.vbk_read.proofs.Signed.{back32}
 use Rattle.vbk_report.proofs.Given.{answer_is, lists_are}
 use Rattle.vbk_report.proofs.Lists.{together}
 use Rattle.vbk_report.proofs.ReportReconstruct.block.Goals as goal
