@@ -8,14 +8,15 @@ use native.Mathlib.Omega.{arith}
 use borrow.Author.Tests.{lt-ltb, ltb-false, eqb-true}
 use lib.Dec.{ltb, eqb}
 use lib.ListN.{length}
-use Rattle.answers.specs.Answers.{number}
 use Rattle.answers.specs.Sizes.{side}
 use Rattle.answers.proofs.Numbers.{pass, rest}
 use Rattle.vbk_read.specs.Records.{size_at, lossless_at, next_at, end_answer, ends, lossless_answer, check_answer, Recorded}
-use Rattle.vbk_read.specs.Header.{width_of, height_of, plane_area, header_answer, fields_of, Headed}
-use Rattle.vbk_read.specs.declared.Header.{Header}
+use Rattle.vbk_read.specs.Header.{width_of, height_of, plane_area, header_answer, Headed}
+use Rattle.vbk_read.specs.declared.Cursor.{Cursor}
+use Rattle.vbk_read.specs.declared.Fields.{Fields}
 use Rattle.vbk_read.specs.declared.Head.{Head}
-use Rattle.vbk_read.specs.declared.Record.{Record}
+use Rattle.vbk_read.specs.declared.Record.TheVariants.{Whole}
+use Rattle.std.specs.Prelude.{Ok}
 use Rattle.vbk_read.proofs.Records.{sizes}
 use Rattle.vbk_read.proofs.Headers.{good}
 use Rattle.clip_dump.specs.Inner.{Plane}
@@ -34,9 +35,9 @@ none_ends n m h = go (eqb n 0) refl
 goes_on : (n : ℕ) → n ≡ 0 → not (eqb n 0) ≡ false
 goes_on n e = rw e
 
-module _ (s : List ℕ) (at : ℕ) {r : Record} (d : Recorded s at r) (h : at < length s) (z : number r.answer ≡ 0) where
+module _ (s : List ℕ) (at : ℕ) {head : Head} {next : Cursor} (d : Recorded s at (Whole head next)) (h : at < length s) where
   checked : check_answer s at ≡ 0
-  checked = sym d.answered ∙ z
+  checked = sym d.answered
 
   end_is : end_answer s at ≡ 0
   unfolding check_answer
@@ -56,19 +57,19 @@ module _ (s : List ℕ) (at : ℕ) {r : Record} (d : Recorded s at r) (h : at < 
       let e3 = rest (ltb 3 (size_at s at)) 1 _ e2 in
       (ltb-false 3 (size_at s at) (pass (ltb 3 (size_at s at)) 1 _ e2), ltb-false (length s) (next_at s at) (pass (ltb (length s) (next_at s at)) 11 _ e3))
 
-  size_is : r.head.size ≡ size_at s at
+  size_is : head.size ≡ size_at s at
   size_is = ap (λ (x : Head). x.size) d.head_is ∙ rw (on, lossless_is)
 
-  pub whole_size : r.head.size ≤ 3
+  pub whole_size : head.size ≤ 3
   whole_size = omega (arith, size_is, there.0)
 
-  pub whole_next : r.next.at ≡ at + 11 + 4 * (side (r.head.size + 2) * side (r.head.size + 2))
+  pub whole_next : next.at ≡ at + 11 + 4 * (side (head.size + 2) * side (head.size + 2))
   unfolding next_at
   whole_next = d.next_is ∙ rw (on, size_is)
 
-  pub whole_there : r.next.at ≤ length s
+  pub whole_there : next.at ≤ length s
   whole_there =
-      let e : r.next.at ≡ next_at s at = d.next_is ∙ rw on in
+      let e : next.at ≡ next_at s at = d.next_is ∙ rw on in
       omega (arith, e, there.1)
 
 -- rows of w numbers: row r of h, one more, all of them
@@ -86,10 +87,9 @@ some_width zero h p = absurd (omega (arith, N.mul-zero h))
 some_width (suc w) h p = omega arith
 
 -- a header that is answered 0
-pub header_plane : (s : List ℕ) {h : Header} → Headed s h → number h.answer ≡ 0 → Plane s h.fields.width h.fields.height
-header_plane s {h} d z =
-    let a : header_answer s ≡ 0 = sym d.answered ∙ z in
+pub header_plane : (s : List ℕ) {f : Fields} → Headed s (Ok f) → Plane s f.width f.height
+header_plane s {f} d =
+    let a : header_answer s ≡ 0 = sym d.answered in
     let g = good s a in
-    let f : h.fields ≡ fields_of s = d.fields_are ∙ rw a in
-    let e : h.fields.height * h.fields.width ≡ plane_area s = rw f (N.mul_comm (height_of s) (width_of s)) in
+    let e : f.height * f.width ≡ plane_area s = rw d.fields_are (N.mul_comm (height_of s) (width_of s)) in
     (omega (arith, e, g.area_some), (omega (arith, e, g.area_fits), (omega (arith, e, g.samples_there), g.file_fits)))

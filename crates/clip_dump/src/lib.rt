@@ -10,7 +10,7 @@ ghost use Rattle.clip_dump.specs.Inner.{Within, Plane};
 
 use std::fmt;
 use std::fmt::{Display, InlineText, Write};
-use vbk_read::{Cursor, Head};
+use vbk_read::{Cursor, Head, Record};
 
 // No text is longer: 16 bytes for each of the longest file.
 pub const TEXT_LIMIT: usize = 1048560;
@@ -106,7 +106,7 @@ fn put_token(out: &mut [u8], at: usize, t: i32) -> usize
     requires { at + 22 ≤ length out.old }
     ensures { Within out.old at 22 result out.new }
 {
-    let m = answers::magnitude(words::long(t));
+    let m = answers::magnitude(i64::from(t));
     if t < 0 {
         return put_negative(out, at, m);
     }
@@ -142,9 +142,9 @@ fn put_header(out: &mut [u8], depth: u8, width: u16, height: u16) -> usize
     let b = put_three(
         out,
         a,
-        words::byte64(depth),
-        words::wide16(width),
-        words::wide16(height),
+        u64::from(depth),
+        u64::from(width),
+        u64::from(height),
     );
     put_byte(out, b, b'\n')
 }
@@ -158,7 +158,7 @@ fn put_samples(out: &mut [u8], at: usize, file: &[u8], from: usize, width: usize
     for k in 0..width {
         let c = Cursor { at: from + 2 * k };
         let got = c.read_u16(file);
-        place = put_number(out, place, words::wide16(got.value));
+        place = put_number(out, place, u64::from(got.value));
     }
     place
 }
@@ -226,19 +226,13 @@ fn put_six(out: &mut [u8], at: usize, h: Head) -> usize
     requires { at + 126 ≤ length out.old }
     ensures { Within out.old at 126 result out.new }
 {
-    let a = put_three(
-        out,
-        at,
-        words::wide16(h.x),
-        words::wide16(h.y),
-        words::byte64(h.size),
-    );
+    let a = put_three(out, at, u64::from(h.x), u64::from(h.y), u64::from(h.size));
     put_three(
         out,
         a,
-        words::byte64(h.tx_type),
-        words::byte64(h.lossless),
-        words::wide16(h.dc),
+        u64::from(h.tx_type),
+        u64::from(h.lossless),
+        u64::from(h.dc),
     )
 }
 
@@ -249,7 +243,7 @@ fn put_head(out: &mut [u8], at: usize, h: Head) -> usize
 {
     let a = put_byte(out, at, b'R');
     let b = put_six(out, a, h);
-    let c = put_number(out, b, words::wide16(h.ac));
+    let c = put_number(out, b, u64::from(h.ac));
     put_byte(out, c, b'\n')
 }
 
@@ -268,18 +262,16 @@ fn put_one(out: &mut [u8], at: usize, file: &[u8], from: usize) -> Result<Step, 
     ensures step { IfOk result (λ s. (s.place ≤ 16 * s.next) × ((from < s.next) × (s.next ≤ length file.now))) }
     ensures room { length out.new ≡ length out.old }
 {
-    let record = vbk_read::record_at(file, from);
-    let answer = record.answer;
-    let number = answers::code(answer);
-    if number != 0 {
-        return Err(number);
+    match vbk_read::record_at(file, from) {
+        Record::Whole(head, next) => {
+            let side = answers::side(u32::from(head.size) + 2);
+            Ok(Step {
+                next: next.at,
+                place: put_record(out, at, file, from, head, side),
+            })
+        }
+        refused => Err(answers::code(refused.answer())),
     }
-    let h = record.head;
-    let side = answers::side(h.size as u32 + 2);
-    Ok(Step {
-        next: record.next.at,
-        place: put_record(out, at, file, from, h, side),
-    })
 }
 
 // The rows of all records from a place on, where none is refused; the place past them.
@@ -322,8 +314,8 @@ fn put_file(
     ensures place { IfOk result (λ n. n ≤ length out.new) }
     ensures room { length out.new ≡ length out.old }
 {
-    let w = words::count16(width);
-    let h = words::count16(height);
+    let w = usize::from(width);
+    let h = usize::from(height);
     let a = put_header(out, depth, width, height);
     let b = put_plane(out, a, file, w, h);
     put_records(out, b, file, 10 + 2 * (h * w))
@@ -335,14 +327,12 @@ fn dump_text(file: &[u8], out: &mut [u8]) -> Result<usize, Refused>
     ensures place { IfOk result (λ n. n ≤ length out.new) }
     ensures room { length out.new ≡ length out.old }
 {
-    let header = vbk_read::read_header(file);
-    let answer = header.answer;
-    let number = answers::code(answer);
-    if number != 0 {
-        return Err(Refused::Header { answer: number });
+    match vbk_read::read_header(file) {
+        Ok(f) => put_file(out, file, f.depth, f.width, f.height),
+        Err(refusal) => Err(Refused::Header {
+            answer: u32::from(refusal),
+        }),
     }
-    let f = header.fields;
-    put_file(out, file, f.depth, f.width, f.height)
 }
 
 // The words on what is wrong, at the start of the buffer.

@@ -45,17 +45,20 @@ fn write(clip: &Clip, out: &mut [u8], words: &mut [u8]) -> Made
         first(&clip.tokens, state.extent.start + state.extent.need),
         out,
     );
-    let answer = answers::code(written.answer);
-    if answer != 0 {
-        let told = state.told(Fault::Refused { answer });
-        return Made {
-            file: None,
-            said: clip_told::tell(words, state.said, told),
-        };
-    }
-    Made {
-        file: Some(written.length),
-        said: state.said.min(words.len()),
+    match written {
+        Ok(length) => Made {
+            file: Some(length),
+            said: state.said.min(words.len()),
+        },
+        Err(refusal) => {
+            let told = state.told(Fault::Refused {
+                answer: u32::from(refusal),
+            });
+            Made {
+                file: None,
+                said: clip_told::tell(words, state.said, told),
+            }
+        }
     }
 }
 
