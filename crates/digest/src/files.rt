@@ -137,12 +137,7 @@ pub fn flag(r: u64, lossless: bool) -> u64 {
 }
 
 // What a run leaves, and its figures.
-fn feed_run(
-    digest: u64,
-    outcome: Result<Run, Refusal>,
-    samples: &[u16],
-    answers: &[u8],
-) -> u64 {
+fn feed_run(digest: u64, outcome: Result<Run, Refusal>, samples: &[u16], answers: &[u8]) -> u64 {
     let figures = match outcome {
         Ok(run) => [
             0,
