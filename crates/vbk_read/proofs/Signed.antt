@@ -9,4 +9,3 @@ use mir.ValLaws.{to_z-of_z}
 
 pub back32 : (z : ℤ) → mag z < 2 ^ 31 → to_z w32 (of_z w32 z) ≡ z
 back32 z h = to_z-of_z w32 z (record { sfits = h })
-

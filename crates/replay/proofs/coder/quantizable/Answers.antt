@@ -18,5 +18,5 @@ pub returns : goal.returns
 returns c h =
     let seen : c.magnitude.result ≡ nat_abs c.args.coef = c.magnitude.ensures ∙ ap nat_abs (to_z-of_z w64 c.args.coef c.ranges.coef) in
     let asked : c.bad_quantizer.result ≡ bad_quantizer c.args.quantizer =
-          c.bad_quantizer.ensures ∙ ap bad_quantizer (to_z-of_z w32 c.args.quantizer c.ranges.quantizer) in
+    c.bad_quantizer.ensures ∙ ap bad_quantizer (to_z-of_z w32 c.args.quantizer c.ranges.quantizer) in
     (sym asked ∙ c.if-bad_quantizer.false, omega (arith, seen, c.if-magnitude-gt-COEF.false), omega (arith, leb-true c.args.most 262210 h))
