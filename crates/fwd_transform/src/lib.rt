@@ -17,7 +17,7 @@ use answers::{
     Answer, COEF_LIMIT, LIST_LIMIT, Refusal, WHT_LIMIT, any_beyond, bad_depth, bad_size, retired,
 };
 use blocks::{load, store};
-use quant::{AcQuant, DcQuant, bad_quantizers, max_codeable_coef, quantize, quantizer_at};
+use quant::{AcQuant, DcQuant, bad_quantizers, max_codeable_coef, quantize};
 use wht::inverse_wht;
 
 // The answer to the whole block, before anything is written.
@@ -116,7 +116,10 @@ fn token_at(k: usize, coef: i64, dc: DcQuant, ac: AcQuant, size: u32, most: u64,
     requires { (bad_quantizer dc.0 ≡ false) × (bad_quantizer ac.0 ≡ false) × (nat_abs coef ≤ 2 ^ 31) × (most ≤ codeable 12) }
     ensures { result ≡ quantize rule size most (quantizer_at dc ac k) coef }
 {
-    quantize(quantizer_at(k, dc, ac), coef, size, most, rule)
+    if k == 0 {
+        return quantize(dc, coef, size, most, rule);
+    }
+    quantize(ac, coef, size, most, rule)
 }
 
 // Each coefficient becomes its token.

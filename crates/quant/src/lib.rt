@@ -1,6 +1,6 @@
 #![tactic(auto)]
 
-ghost use Rattle.std.specs.Prelude.{false, ◌≡◌, ◌||◌, min, ◌*◌, ◌^◌, ◌≤◌, pos, nat_abs};
+ghost use Rattle.std.specs.Prelude.{false, ◌≡◌, ◌||◌, ℤ, min, ◌*◌, ◌^◌, ◌≤◌, pos, nat_abs};
 ghost use Rattle.std.specs.Int.Signed.{quot_z};
 ghost use Rattle.answers.specs.Bad.{bad_quantizer};
 ghost use Rattle.quant.specs.Places.{quantizer_at};
@@ -16,6 +16,30 @@ pub struct DcQuant(pub i32);
 // The quantizer of all other places.
 #[derive(Clone, Copy)]
 pub struct AcQuant(pub i32);
+
+// A quantizer of either kind, by its number: what is asked of one takes each as what it is, and neither stands for the other.
+pub trait Quantizer: Copy {
+    ghost number: { Self → ℤ };
+
+    fn number(self) -> i32
+        ensures { result ≡ number self };
+}
+
+impl Quantizer for DcQuant {
+    ghost number = { λ q. q.0 };
+
+    fn number(self) -> i32 {
+        self.0
+    }
+}
+
+impl Quantizer for AcQuant {
+    ghost number = { λ q. q.0 };
+
+    fn number(self) -> i32 {
+        self.0
+    }
+}
 
 // The greatest magnitude of a token; 0 for a depth that is not 8, 10 or 12.
 pub fn max_codeable_coef(depth: u32) -> i64
@@ -85,63 +109,69 @@ fn with_sign(coef: i64, m: u64) -> i64
     token
 }
 
-// A quantizer outside 1 to 32,767.
-pub fn bad_quantizer(quantizer: i32) -> bool
-    ensures { result ≡ bad_quantizer quantizer }
+// Outside 1 to 32,767.
+pub fn bad_quantizer<Q: Quantizer>(quantizer: Q) -> bool
+    ensures { result ≡ bad_quantizer (Q.number quantizer) }
 {
-    if quantizer < 1 {
+    let q = quantizer.number();
+    if q < 1 {
         return true;
     }
-    QUANT_LIMIT < quantizer
+    QUANT_LIMIT < q
 }
 
 // One of the two is.
 pub fn bad_quantizers(dc_quant: DcQuant, ac_quant: AcQuant) -> bool
     ensures { result ≡ bad_quantizer dc_quant.0 || bad_quantizer ac_quant.0 }
 {
-    bad_quantizer(dc_quant.0) || bad_quantizer(ac_quant.0)
-}
-
-// The quantizer of a place: DC for place 0, AC for all others.
-pub fn quantizer_at(place: usize, dc_quant: DcQuant, ac_quant: AcQuant) -> i32
-    ensures { result ≡ quantizer_at dc_quant ac_quant place }
-{
-    if place == 0 {
-        return dc_quant.0;
-    }
-    ac_quant.0
+    bad_quantizer(dc_quant) || bad_quantizer(ac_quant)
 }
 
 // The coefficient of a token.
-pub fn dequant(quantizer: i32, token: i64, size: u32) -> i64
-    requires { (bad_quantizer quantizer ≡ false) × (nat_abs token ≤ codeable 12) }
-    ensures { result ≡ dequant size quantizer token }
+pub fn dequant<Q: Quantizer>(quantizer: Q, token: i64, size: u32) -> i64
+    requires { (bad_quantizer (Q.number quantizer) ≡ false) × (nat_abs token ≤ codeable 12) }
+    ensures { result ≡ dequant size (Q.number quantizer) token }
 {
-    divided(token * (quantizer as i64), size)
+    let q = quantizer.number();
+    divided(token * (q as i64), size)
 }
 
-// The same where the coefficient is of 16 bits.
-pub fn dequant16(quantizer: i32, token: i64, size: u32) -> i16
-    requires { (bad_quantizer quantizer ≡ false) × (nat_abs token ≤ 32767) × (nat_abs token * nat_abs quantizer ≤ 32767 * dq_denom size) }
-    ensures { result ≡ dequant size quantizer token }
+// The coefficient of the token at a place: DC at place 0, AC at all others.
+pub fn dequant_at(place: usize, dc_quant: DcQuant, ac_quant: AcQuant, token: i64, size: u32) -> i64
+    requires { (bad_quantizer dc_quant.0 || bad_quantizer ac_quant.0 ≡ false) × (nat_abs token ≤ codeable 12) }
+    ensures { result ≡ dequant size (quantizer_at dc_quant ac_quant place) token }
 {
-    coefficient16(token as i16, quantizer as i16, size)
+    if place == 0 {
+        return dequant(dc_quant, token, size);
+    }
+    dequant(ac_quant, token, size)
+}
+
+// The same of a token whose coefficient is of 16 bits.
+pub fn dequant16<Q: Quantizer>(quantizer: Q, token: i64, size: u32) -> i16
+    requires { (bad_quantizer (Q.number quantizer) ≡ false) × (nat_abs token ≤ 32767) × (nat_abs token * nat_abs (Q.number quantizer) ≤ 32767 * dq_denom size) }
+    ensures { result ≡ dequant size (Q.number quantizer) token }
+{
+    let q = quantizer.number();
+    coefficient16(token as i16, q as i16, size)
 }
 
 // The products of magnitudes that add up to `sum`, added up.
-pub fn weight(quantizer: i32, sum: u64) -> u64
-    requires { (bad_quantizer quantizer ≡ false) × (sum ≤ 2 ^ 24) }
-    ensures { (result ≡ sum * nat_abs quantizer) × (result ≤ 2 ^ 39) }
+pub fn weight<Q: Quantizer>(quantizer: Q, sum: u64) -> u64
+    requires { (bad_quantizer (Q.number quantizer) ≡ false) × (sum ≤ 2 ^ 24) }
+    ensures { (result ≡ sum * nat_abs (Q.number quantizer)) × (result ≤ 2 ^ 39) }
 {
-    sum * (quantizer as u64)
+    let q = quantizer.number();
+    sum * (q as u64)
 }
 
 // The token of a coefficient under a rule, at most `most` in magnitude.
-pub fn quantize(quantizer: i32, coef: i64, size: u32, most: u64, rule: u32) -> i64
-    requires { (bad_quantizer quantizer ≡ false) × (nat_abs coef ≤ 2 ^ 31) × (most ≤ codeable 12) }
-    ensures { result ≡ quantize rule size most quantizer coef }
+pub fn quantize<Q: Quantizer>(quantizer: Q, coef: i64, size: u32, most: u64, rule: u32) -> i64
+    requires { (bad_quantizer (Q.number quantizer) ≡ false) × (nat_abs coef ≤ 2 ^ 31) × (most ≤ codeable 12) }
+    ensures { result ≡ quantize rule size most (Q.number quantizer) coef }
 {
-    let q = quantizer as u64;
+    let signed = quantizer.number();
+    let q = signed as u64;
     let a = widened(coef, size);
     let nearest = (2 * a + (q - short(rule))) / (2 * q);
     with_sign(coef, most.min(nearest))

@@ -90,7 +90,7 @@ fn enough(weight: Weight, first: u64, size: u32, dc_quant: DcQuant, ac_quant: Ac
         return false;
     }
     let rest = weight.sum - first;
-    quant::weight(dc_quant.0, first) + quant::weight(ac_quant.0, rest) <= most(size)
+    quant::weight(dc_quant, first) + quant::weight(ac_quant, rest) <= most(size)
 }
 
 // The coefficients of eight tokens from `at` on, but for those before `from`.
@@ -100,7 +100,7 @@ fn eight(tokens: &[i64], at: usize, from: usize, ac_quant: AcQuant, size: u32) -
 {
     let mut o = [0i16; 8];
     for j in from..8usize {
-        o[j] = quant::dequant16(ac_quant.0, tokens[at + j], size);
+        o[j] = quant::dequant16(ac_quant, tokens[at + j], size);
     }
     o
 }
@@ -111,7 +111,7 @@ fn first_eight(tokens: &[i64], dc_quant: DcQuant, ac_quant: AcQuant, size: u32) 
     ensures { (j : ℕ) → j < 8 → slice_index_or result j (pos 0) ≡ dequant size (quantizer_at dc_quant ac_quant j) (slice_index_or tokens.now j (pos 0)) }
 {
     let mut o = eight(tokens, 0, 1, ac_quant, size);
-    o[0] = quant::dequant16(dc_quant.0, tokens[0], size);
+    o[0] = quant::dequant16(dc_quant, tokens[0], size);
     o
 }
 
@@ -215,7 +215,7 @@ pub fn residual(
         return false;
     }
     if scan.weight.sum == first && tx_type == 0 {
-        z[0] = quant::dequant16(dc_quant.0, tokens[0], size);
+        z[0] = quant::dequant16(dc_quant, tokens[0], size);
         residual_dc(z, size + 2);
         return true;
     }

@@ -123,7 +123,7 @@ fn coefficient(place: usize, token: i64, size: u32, dc_quant: DcQuant, ac_quant:
     requires { (bad_quantizer dc_quant.0 || bad_quantizer ac_quant.0 ≡ false) × (nat_abs token ≤ codeable 12) }
     ensures { result ≡ dequant size (quantizer_at dc_quant ac_quant place) token }
 {
-    quant::dequant(quant::quantizer_at(place, dc_quant, ac_quant), token, size)
+    quant::dequant_at(place, dc_quant, ac_quant, token, size)
 }
 
 // A token's magnitude above the depth's limit.

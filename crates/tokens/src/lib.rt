@@ -16,7 +16,7 @@ use answers::{
     bad_tx_type, magnitude,
 };
 use plane::Plane;
-use quant::{AcQuant, DcQuant, bad_quantizers, dequant, max_codeable_coef, quantizer_at};
+use quant::{AcQuant, DcQuant, Quantizer, bad_quantizers, dequant_at, max_codeable_coef};
 
 // How the tokens of a block are coded, as a call has it.
 #[derive(Clone, Copy)]
@@ -94,11 +94,12 @@ fn largest_product(size: u32) -> u64
 }
 
 // At most `most`, and its coefficient within its limit.
-fn largest_token(quantizer: i32, size: u32, most: u64) -> u64
-    requires { bad_quantizer quantizer ≡ false }
-    ensures { Bounds size quantizer most result }
+fn largest_token<Q: Quantizer>(quantizer: Q, size: u32, most: u64) -> u64
+    requires { bad_quantizer (Q.number quantizer) ≡ false }
+    ensures { Bounds size (Q.number quantizer) most result }
 {
-    most.min(largest_product(size) / (quantizer as u64))
+    let q = quantizer.number();
+    most.min(largest_product(size) / (q as u64))
 }
 
 // The bound of place k.
@@ -149,8 +150,8 @@ pub fn check_tokens(tokens: &[i64], coding: Coding) -> Answer
     if some_above(
         tokens,
         tokens.len(),
-        DcBound(largest_token(coding.dc_quant.0, coding.size, most)),
-        AcBound(largest_token(coding.ac_quant.0, coding.size, most)),
+        DcBound(largest_token(coding.dc_quant, coding.size, most)),
+        AcBound(largest_token(coding.ac_quant, coding.size, most)),
     ) {
         if any_beyond(tokens, tokens.len(), most) {
             return Err(Refusal::Token);
@@ -166,7 +167,7 @@ pub fn dequantize(block: &mut [i64; 1024], tokens: &[i64], count: usize, coding:
     ensures { block.new ≡ fill count (λ k. dequant coding.size (quantizer_at coding.dc_quant coding.ac_quant k) (get_or tokens.now k (pos 0))) block.old }
 {
     for k in 0..count {
-        let quantizer = quantizer_at(k, coding.dc_quant, coding.ac_quant);
-        block[k] = dequant(quantizer, tokens[k], coding.size);
+        let token = tokens[k];
+        block[k] = dequant_at(k, coding.dc_quant, coding.ac_quant, token, coding.size);
     }
 }

@@ -1,4 +1,4 @@
-use mathlib.Core.Path.{ap, ◌∙◌}
+use mathlib.Core.Path.{sym, ap, ◌∙◌}
 use lib.IntN.{ℤ, pos}
 use lib.Signed.{quot_z}
 use mir.Syntax.{w64}
@@ -7,14 +7,14 @@ use Rattle.quant.specs.Token.{dq_denom, dequant}
 use Rattle.quant.proofs.Machine.{signed_cast, product_fits, product_is}
 use Rattle.quant.proofs.dequant.Goals as goal
 
-pub overflow_cast-quantizer : goal.overflow_cast-quantizer
-overflow_cast-quantizer c = signed_cast c.args.quantizer c.requires.0
+pub overflow_cast-q : goal.overflow_cast-q
+overflow_cast-q g c = signed_cast c.number-q.result (rw (sym c.number-q.ensures) at c.requires.0)
 
 pub overflow_mul-token : goal.overflow_mul-token
-overflow_mul-token c = product_fits c.args.quantizer c.requires.0 c.args.token c.requires.1
+overflow_mul-token g c = product_fits c.number-q.result (rw (sym c.number-q.ensures) at c.requires.0) c.args.token c.requires.1
 
 pub returns : goal.returns
 unfolding dequant
-returns c =
-    rd_ok w64 {z = c.divided.result} c.divided.type_inv ∙ c.divided.ensures
-    ∙ ap (λ (p : ℤ). quot_z p (pos (dq_denom c.args.size))) (product_is c.args.quantizer c.requires.0 c.args.token c.requires.1)
+returns g c =
+    rw (sym c.number-q.ensures) (rd_ok w64 {z = c.divided.result} c.divided.type_inv ∙ c.divided.ensures
+    ∙ ap (λ (p : ℤ). quot_z p (pos (dq_denom c.args.size))) (product_is c.number-q.result (rw (sym c.number-q.ensures) at c.requires.0) c.args.token c.requires.1))

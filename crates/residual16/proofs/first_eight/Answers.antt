@@ -6,7 +6,6 @@ use Rattle.quant.specs.declared.DcQuant.{DcQuant}
 use Rattle.quant.specs.declared.AcQuant.{AcQuant}
 use Rattle.quant.specs.Places.{quantizer_at}
 use Rattle.quant.specs.Token.{dequant}
-use Rattle.quant.proofs.Machine.{number}
 use Rattle.residual16.proofs.first_eight.Goals as goal
 
 -- AC at all places but the first, which is put in afterwards
@@ -21,14 +20,14 @@ both size dc ac tokens o v long rest first (suc j) l =
 
 pub dequant16-requires : goal.dequant16-requires
 dequant16-requires c =
-    rw (number c.args.dc_quant.0 c.requires.1, to_z-of_z w64 (get_or c.args.tokens.now 0 (pos 0)) (record { sfits = c.dequant16-arg-1.given })) (c.requires.1, c.requires.3.0, c.requires.3.1)
+    rw (to_z-of_z w64 (get_or c.args.tokens.now 0 (pos 0)) (record { sfits = c.dequant16-arg-1.given })) (c.requires.1, c.requires.3.0, c.requires.3.1)
 
 pub returns : goal.returns
 returns c =
     let t = to_z-of_z w64 (get_or c.args.tokens.now 0 (pos 0)) (record { sfits = c.dequant16-arg-1.given }) in
     let e = c.eight-o.ensures in
     both c.args.size c.args.dc_quant c.args.ac_quant c.args.tokens.now c.eight-o.result _ e.0 e.1
-    (rd_ok w16 {z = c.dequant16.result} c.dequant16.type_inv ∙ rw (number c.args.dc_quant.0 c.requires.1, t) at c.dequant16.ensures)
+    (rd_ok w16 {z = c.dequant16.result} c.dequant16.type_inv ∙ rw (t) at c.dequant16.ensures)
 
 pub eight-o-requires : goal.eight-o-requires
 eight-o-requires c = (c.requires.0, omega arith, c.requires.2, λ j h l. let e : 0 + j ≡ j = omega arith in rw e (c.requires.4 j h l))

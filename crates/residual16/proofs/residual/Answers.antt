@@ -4,7 +4,6 @@ use mir.ValLaws.{to_z-of_z}
 use Rattle.whole.proofs.Signed.{rd, rd_ok}
 use Rattle.quant.specs.Places.{quantizer_at}
 use Rattle.quant.specs.Token.{dq_denom, dequant}
-use Rattle.quant.proofs.Machine.{number}
 use Rattle.blocks.proofs.Inverse.{side_most}
 use Rattle.residual16.specs.Inner.{Scanned, Short, Lent}
 use Rattle.residual16.proofs.Numbers.{never}
@@ -57,13 +56,13 @@ module _ (e : Else-not-enough) where
 pub dequant16-requires : goal.dequant16-requires
 dequant16-requires c =
     let fine = (lent (goal.at.dequant16-requires c).Start).dc_ok in
-    rw (number c.args.dc_quant.0 fine, to_z-of_z w64 (get_or c.args.tokens.now 0 (pos 0)) (record { sfits = c.dequant16-arg-1.given })) (fine, (dc_short (goal.at.dequant16-requires c).Else-not-enough).0, (dc_short (goal.at.dequant16-requires c).Else-not-enough).1)
+    rw (to_z-of_z w64 (get_or c.args.tokens.now 0 (pos 0)) (record { sfits = c.dequant16-arg-1.given })) (fine, (dc_short (goal.at.dequant16-requires c).Else-not-enough).0, (dc_short (goal.at.dequant16-requires c).Else-not-enough).1)
 
 pub returns-then-tx_type-eq0 : goal.returns-then-tx_type-eq0
 returns-then-tx_type-eq0 c =
     let a = c.args in
     let t = to_z-of_z w64 (get_or a.tokens.now 0 (pos 0)) (record { sfits = c.dequant16-arg-1.given }) in
-    let v : rd w16 c.dequant16.result ≡ dequant a.size a.dc_quant.0 (get_or a.tokens.now 0 (pos 0)) = rd_ok w16 {z = c.dequant16.result} c.dequant16.type_inv ∙ rw (number a.dc_quant.0 (lent (goal.at.returns-then-tx_type-eq0 c).Start).dc_ok, t) at c.dequant16.ensures in
+    let v : rd w16 c.dequant16.result ≡ dequant a.size a.dc_quant.0 (get_or a.tokens.now 0 (pos 0)) = rd_ok w16 {z = c.dequant16.result} c.dequant16.type_inv ∙ rw (t) at c.dequant16.ensures in
     λ h. served_flat a.size a.dc_quant a.ac_quant a.tx_type a.tokens.now (lent (goal.at.returns-then-tx_type-eq0 c).Start) (all (goal.at.returns-then-tx_type-eq0 c).After-magnitude-first) (added (goal.at.returns-then-tx_type-eq0 c).After-magnitude-first) (strips (goal.at.returns-then-tx_type-eq0 c).After-magnitude-first) (scanned (goal.at.returns-then-tx_type-eq0 c).After-magnitude-first) (told (goal.at.returns-then-tx_type-eq0 c).Else-not-enough).0 (told (goal.at.returns-then-tx_type-eq0 c).Else-not-enough).1
     (c.if-scan-first.true ∙ first_is (goal.at.returns-then-tx_type-eq0 c).After-magnitude-first) c.if-tx_type-eq0.true
     a.z.now (set a.z.now 0 (rd w16 c.dequant16.result)) c.residual_dc.new.z c.requires.0 (ap (set a.z.now 0) v) c.residual_dc.ensures

@@ -9,7 +9,6 @@ use Rattle.whole.proofs.Signed.{rd, rd_ok}
 use Rattle.answers.specs.Bad.{any_beyond}
 use Rattle.answers.specs.Limits.{codeable}
 use Rattle.answers.proofs.Passed.{codeable_most}
-use Rattle.quant.proofs.Machine.{number}
 use Rattle.tokens.specs.Tokens.{bad_coefficient}
 use Rattle.tokens.specs.Inner.{token_answer}
 use Rattle.tokens.proofs.Sizes.{dc_fine, ac_fine}
@@ -22,10 +21,10 @@ limit : (c : After-max_codeable_coef-most) → rd w64 c.max_codeable_coef-most.r
 limit c = rd_ok w64 {z = c.max_codeable_coef-most.result} c.max_codeable_coef-most.type_inv ∙ c.max_codeable_coef-most.ensures
 
 pub largest_token-requires : goal.largest_token-requires
-largest_token-requires c = let h = dc_fine c.args.coding.dc_quant c.args.coding.ac_quant c.requires.1 in rw (number c.args.coding.dc_quant.0 h) h
+largest_token-requires c = dc_fine c.args.coding.dc_quant c.args.coding.ac_quant c.requires.1
 
 pub largest_token-requires-2 : goal.largest_token-requires-2
-largest_token-requires-2 c = let h = ac_fine c.args.coding.dc_quant c.args.coding.ac_quant c.requires.1 in rw (number c.args.coding.ac_quant.0 h) h
+largest_token-requires-2 c = ac_fine c.args.coding.dc_quant c.args.coding.ac_quant c.requires.1
 
 -- the scan is both tests
 either : (c : After-some_above) → let a = c.args in
@@ -34,7 +33,7 @@ either c =
     let a = c.args in
     c.some_above.ensures
     ∙ rw (rd_ok w64 {z = c.max_codeable_coef-most.result} c.max_codeable_coef-most.type_inv ∙ c.max_codeable_coef-most.ensures) at (above_either a.coding.size (nat_abs (rd w64 c.max_codeable_coef-most.result)) (record { 0 = c.largest_token.result }) (record { 0 = c.largest_token-2.result }) a.coding.dc_quant a.coding.ac_quant c.requires.1
-    (rw (number a.coding.dc_quant.0 (dc_fine a.coding.dc_quant a.coding.ac_quant c.requires.1)) at c.largest_token.ensures) (rw (number a.coding.ac_quant.0 (ac_fine a.coding.dc_quant a.coding.ac_quant c.requires.1)) at c.largest_token-2.ensures) a.tokens.now)
+    c.largest_token.ensures c.largest_token-2.ensures a.tokens.now)
 
 -- and the second scan the first of them
 tokens_first : (c : After-any_beyond) → let a = c.args in

@@ -10,23 +10,18 @@ use Rattle.quant.specs.Places.{quantizer_at}
 use Rattle.quant.proofs.Places.{fine_at}
 use Rattle.tokens.specs.Tokens.{bad_quantizers}
 use Rattle.tokens.proofs.dequantize.Goals as goal
-use Rattle.tokens.proofs.dequantize.Goals.{After-quantizer_at-quantizer}
 
--- the quantizer of the place
-chosen : (c : After-quantizer_at-quantizer) → rd w32 c.quantizer_at-quantizer.result ≡ quantizer_at c.args.coding.dc_quant c.args.coding.ac_quant c.loop-k.k
-chosen c = rd_ok w32 {z = c.quantizer_at-quantizer.result} c.quantizer_at-quantizer.type_inv ∙ c.quantizer_at-quantizer.ensures
-
-pub dequant-requires : goal.dequant-requires
+pub dequant_at-requires : goal.dequant_at-requires
 unfolding bad_quantizers
-dequant-requires c =
+dequant_at-requires c =
     let k = c.loop-k.k in
-    rw (chosen c.before, to_z-of_z w64 (get_or c.args.tokens.now k (pos 0)) (record { sfits = c.dequant-arg-1.given })) (fine_at c.args.coding.dc_quant c.args.coding.ac_quant k c.requires.3, c.requires.2 k (omega arith))
+    rw (to_z-of_z w64 (get_or c.args.tokens.now k (pos 0)) (record { sfits = c.token-1.given })) (c.requires.3, c.requires.2 k (omega arith))
 
 pub loop-k-preserved : goal.loop-k-preserved
 loop-k-preserved c =
     let l = c.loop-k in
-    let t = to_z-of_z w64 (get_or c.args.tokens.now l.k (pos 0)) (record { sfits = c.dequant-arg-1.given }) in
-    let e = rd_ok w64 {z = c.dequant.result} c.dequant.type_inv ∙ rw (rd_ok w32 {z = c.quantizer_at-quantizer.result} c.quantizer_at-quantizer.type_inv ∙ c.quantizer_at-quantizer.ensures, t) at c.dequant.ensures in
+    let t = to_z-of_z w64 (get_or c.args.tokens.now l.k (pos 0)) (record { sfits = c.token-1.given }) in
+    let e = rd_ok w64 {z = c.dequant_at.result} c.dequant_at.type_inv ∙ rw t at c.dequant_at.ensures in
     (omega arith, fill_more _ _ l.k l.invariant.1 (ap (set l.block l.k) e))
 
 pub loop-k-init : goal.loop-k-init
