@@ -105,22 +105,22 @@ fn show_coefficients<O: Write>(output: &mut O) -> io::Result<()> {
     show(
         output,
         "32 by 32, DC quantizer 7, token 5: ",
-        quant::dequant(7, 5, 3),
+        quant::dequant(DcQuant(7), 5, 3),
     )?;
     show(
         output,
         "32 by 32, AC quantizer 7, token -5: ",
-        quant::dequant(7, -5, 3),
+        quant::dequant(AcQuant(7), -5, 3),
     )?;
     show(
         output,
         "4 by 4, AC quantizer 8159, token 16450: ",
-        quant::dequant(8159, 16450, 0),
+        quant::dequant(AcQuant(8159), 16450, 0),
     )?;
     show(
         output,
         "32 by 32, AC quantizer 16318, token 16450: ",
-        quant::dequant(16318, 16450, 3),
+        quant::dequant(AcQuant(16318), 16450, 3),
     )
 }
 

@@ -68,8 +68,8 @@ pub fn max_codeable_coef(line: &mut Line) -> Result<(), Stop> {
 }
 
 // What the quantizer of one number requires.
-fn quantizable(coef: i64, quantizer: i32, most: u64) -> bool
-    ensures { result ≡ true → (bad_quantizer quantizer ≡ false) × (nat_abs coef ≤ 2 ^ 31) × (most ≤ codeable 12) }
+fn quantizable(coef: i64, quantizer: AcQuant, most: u64) -> bool
+    ensures { result ≡ true → (bad_quantizer quantizer.0 ≡ false) × (nat_abs coef ≤ 2 ^ 31) × (most ≤ codeable 12) }
 {
     if quant::bad_quantizer(quantizer) {
         return false;
@@ -83,7 +83,7 @@ fn quantizable(coef: i64, quantizer: i32, most: u64) -> bool
 // Kind 36: a coefficient, its quantizer, the size and the limit of a token.
 pub fn quantize(line: &mut Line) -> Result<(), Stop> {
     let coef = line.number()?;
-    let quantizer = line.number()?;
+    let quantizer = AcQuant(line.number()?);
     let size = line.number()?;
     let most = line.number()?;
     if quantizable(coef, quantizer, most) {

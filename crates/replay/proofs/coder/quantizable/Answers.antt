@@ -2,9 +2,8 @@ use mathlib.Core.Path.{◌≡◌, sym, ap, ◌∙◌}
 use native.Mathlib.Omega.{arith}
 use borrow.Author.Tests.{leb-true}
 use lib.IntN.{nat_abs}
-use mir.Syntax.{w32, w64}
+use mir.Syntax.{w64}
 use mir.ValLaws.{to_z-of_z}
-use Rattle.answers.specs.Bad.{bad_quantizer}
 use Rattle.replay.proofs.Tests.{never}
 use Rattle.replay.proofs.coder.quantizable.Goals as goal
 
@@ -17,6 +16,4 @@ returns-then-magnitude-gt-COEF c h = never h
 pub returns : goal.returns
 returns c h =
     let seen : c.magnitude.result ≡ nat_abs c.args.coef = c.magnitude.ensures ∙ ap nat_abs (to_z-of_z w64 c.args.coef c.ranges.coef) in
-    let asked : c.bad_quantizer.result ≡ bad_quantizer c.args.quantizer =
-    c.bad_quantizer.ensures ∙ ap bad_quantizer (to_z-of_z w32 c.args.quantizer c.ranges.quantizer) in
-    (sym asked ∙ c.if-bad_quantizer.false, omega (arith, seen, c.if-magnitude-gt-COEF.false), omega (arith, leb-true c.args.most 262210 h))
+    (sym c.bad_quantizer.ensures ∙ c.if-bad_quantizer.false, omega (arith, seen, c.if-magnitude-gt-COEF.false), omega (arith, leb-true c.args.most 262210 h))
