@@ -13,7 +13,7 @@ fn show<O: Write, T: Display + Drop>(output: &mut O, call: &str, value: T) -> io
 }
 
 // The number of reconstruction's answer: one token at place 1 of a block, over samples of 100.
-fn answer_of(
+fn answer_to(
     samples: &mut [u16],
     side: usize,
     size: u32,
@@ -47,12 +47,12 @@ fn answer_of(
 }
 
 fn answer_4(token: i64, ac: i32, depth: u32) -> u32 {
-    answer_of(&mut [100; 16], 4, 0, &mut [0; 16], token, ac, depth)
+    answer_to(&mut [100; 16], 4, 0, &mut [0; 16], token, ac, depth)
 }
 
 // With no sample to write.
 fn answer_32(token: i64, ac: i32, depth: u32) -> u32 {
-    answer_of(&mut [0; 0], 0, 3, &mut [0; 1024], token, ac, depth)
+    answer_to(&mut [0; 0], 0, 3, &mut [0; 1024], token, ac, depth)
 }
 
 fn show_row<O: Write>(output: &mut O, row: &[u16]) -> io::Result<()> {
