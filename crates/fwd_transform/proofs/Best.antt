@@ -16,12 +16,13 @@ use Rattle.quant.proofs.Nearness.{quantize_nearest, quantize_least, only_least}
 use Rattle.quant.proofs.Rules.{quantize_greatest, only_greatest}
 use Rattle.fwd_transform.specs.Quantize.{Input, answer_of, token_at, tokens_of, Quantized, bad_rule, rule_answer, Ruled}
 use Rattle.fwd_transform.specs.Best.{Chosen, Best}
-use Rattle.fwd_transform.proofs.Quantizer.{done, known_rest, Fine, fine, place_ok}
+use Rattle.quant.proofs.Places.{fine_each}
+use Rattle.fwd_transform.proofs.Quantizer.{done, known_rest, Fine, fine}
 
 -- ---- a list of tokens by the definitions, at every depth: 12 too, which the calls refuse
 module _ (u : Input) (dc_ok : bad_quantizer u.dc.0 ≡ false) (ac_ok : bad_quantizer u.ac.0 ≡ false) where
   good : (k : ℕ) → bad_quantizer (quantizer_at u.dc u.ac k) ≡ false
-  good k = place_ok u.dc u.ac k dc_ok ac_ok
+  good k = fine_each u.dc u.ac k dc_ok ac_ok
 
   module _ (Choice : ℕ → ℕ → ℤ → ℤ → ℤ → Type 0) (rule : ℕ) where
     -- what the rule chooses of each coefficient, it chooses of the list

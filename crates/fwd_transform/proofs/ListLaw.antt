@@ -18,7 +18,8 @@ use Rattle.quant.specs.declared.AcQuant.{AcQuant}
 use Rattle.quant.specs.declared.DcQuant.{DcQuant}
 use Rattle.quant.proofs.TokenLaw.{token_law}
 use Rattle.fwd_transform.specs.Quantize.{Input, answer_of, token_at, tokens_of, Quantized, bad_rule, Ruled}
-use Rattle.fwd_transform.proofs.Quantizer.{done, known, place_ok}
+use Rattle.quant.proofs.Places.{fine_each}
+use Rattle.fwd_transform.proofs.Quantizer.{done, known}
 
 -- what the call is given: the coefficients of these tokens
 abbrev pub requantized : ℕ → ℕ → DcQuant → AcQuant → List ℤ → Input
@@ -57,7 +58,7 @@ module _ (size depth : ℕ) (dc : DcQuant) (ac : AcQuant) (tokens : List ℤ) (h
   unfolding tokens_of token_at given_back_all
   list_law rule =
       rw length_all (tabulate_same _ _ (length tokens) (λ k l. ap (quantize rule size (codeable depth) (quantizer_at dc ac k)) (at_place k l)
-      ∙ token_law rule size depth (quantizer_at dc ac k) (get_or tokens k (pos 0)) (place_ok dc ac k h.dc_ok h.ac_ok) (h.tokens_ok k l)))
+      ∙ token_law rule size depth (quantizer_at dc ac k) (get_or tokens k (pos 0)) (fine_each dc ac k h.dc_ok h.ac_ok) (h.tokens_ok k l)))
 
   -- whatever meets the promise, at the depths that are written
   pub rule_law : retired depth ≡ false → (rule : ℕ) (a : Answer) (after : List ℤ) → bad_rule rule ≡ false → Ruled rule (requantized size depth dc ac tokens) a after

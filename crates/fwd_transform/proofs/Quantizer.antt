@@ -5,7 +5,7 @@ use mathlib.Core.List.{List}
 use Prim.Native.Nat.{ℕ, ◌≤◌, ◌<◌}
 use native.Mathlib.Omega.{arith}
 use borrow.Author.Tests.{ltb-false, eq-eqb, ne_eqb}
-use lib.Dec.{ltb, eqb}
+use lib.Dec.{ltb}
 use lib.IntN.{ℤ, pos, nat_abs}
 use lib.ListN.{length, get_or}
 use Rattle.whole.specs.Lists.{fill}
@@ -14,23 +14,11 @@ use Rattle.answers.specs.Bad.{bad_depth, retired, bad_size, bad_quantizer, any_b
 use Rattle.answers.specs.Limits.{COEF_LIMIT, LIST_LIMIT}
 use Rattle.answers.proofs.Numbers.{pass, rest}
 use Rattle.answers.proofs.Passed.{none_beyond}
-use Rattle.quant.specs.Places.{quantizer_at}
-use Rattle.quant.specs.declared.AcQuant.{AcQuant}
-use Rattle.quant.specs.declared.DcQuant.{DcQuant}
 use Rattle.fwd_transform.specs.Quantize.{Input, answer_of, token_at, tokens_of, bad_rule, rule_answer, ruled_after}
 
 neither : (a b : Bool) → a || b ≡ false → (a ≡ false) × (b ≡ false)
 neither true b h = (h, cc)
 neither false b h = (refl, h)
-
--- the quantizer of a place is good where both are
-pub place_ok : (dc : DcQuant) (ac : AcQuant) (k : ℕ) → bad_quantizer dc.0 ≡ false → bad_quantizer ac.0 ≡ false → bad_quantizer (quantizer_at dc ac k) ≡ false
-unfolding quantizer_at
-place_ok dc ac k d a = go (eqb k 0) refl
-  where
-    go : (b : Bool) → eqb k 0 ≡ b → bad_quantizer (quantizer_at dc ac k) ≡ false
-    go true e = rw e d
-    go false e = rw e a
 
 module _ (i : Input) where
   -- a refusal leaves the list

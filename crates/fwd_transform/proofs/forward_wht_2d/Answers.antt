@@ -1,11 +1,11 @@
-use mathlib.Core.Path.{◌≡◌, sym, ◌∙◌}
+use mathlib.Core.Path.{sym, ◌∙◌}
 use native.Mathlib.Omega.{arith}
 use Rattle.std.proofs.lemmas.Result.{err_from_is_err_and}
 use Rattle.answers.proofs.Numbers.{refused_number}
 use Rattle.blocks.proofs.Blocks.{columns_length}
 use Rattle.answers.specs.Limits.{WHT_LIMIT}
 use Rattle.wht.specs.Wht.{wht}
-use Rattle.fwd_transform.specs.ForwardWht.{forward_wht, wht_answer}
+use Rattle.fwd_transform.specs.ForwardWht.{forward_wht}
 use Rattle.fwd_transform.proofs.Wht.{columns_within, refused, done, sixteen, in_range}
 use Rattle.fwd_transform.proofs.forward_wht_2d.Goals as goal
 
