@@ -1,7 +1,9 @@
 // A clip's text (docs/REFERENCE.md) read into the lists of a file, row by row. What is wrong is told in words, and reading goes on.
 #![tactic(auto)]
 
-ghost use Rattle.std.specs.Prelude.{◌≡◌, ◌+◌, ◌≤◌, ◌<◌, length, IfSome, OnSome};
+ghost use Rattle.std.specs.Prelude.{◌≡◌, ◌+◌, ◌≤◌, ◌<◌, pos, length, IfSome, OnSome, IfOk};
+ghost use Rattle.clip_rows.specs.Rows.{Tail};
+ghost use Rattle.clip_parse.specs.Numbers.{IsWithin};
 
 use clip_rows::{Line, Separator};
 use clip_state::{Header, MOST, Over, State, letter_row, tokens_of};
@@ -75,6 +77,7 @@ fn number<'a, T: TryFrom<i64>>(
 ) -> Result<T, Fault<'a>>
 where
     T::Error: Drop,
+    ensures { IfOk result (λ value. IsWithin T.try_from_gives least most value) }
 {
     match clip_rows::read_number(digits) {
         None => Err(Fault::NotANumber(cell)),
@@ -116,7 +119,8 @@ where
 impl<'a> Fields<'a> {
     // The next field, if the row has one.
     fn next_cell(&mut self) -> Option<Cell<'a>>
-        ensures { OnSome result (length self.new.rest.now < length self.old.rest.now) }
+        ensures onward { OnSome result (length self.new.rest.now < length self.old.rest.now) }
+        ensures tail { Tail self.old.rest.now self.new.rest.now }
     {
         if self.rest.is_empty() {
             return None;
@@ -137,6 +141,8 @@ impl<'a> Fields<'a> {
     fn next_number<T: TryFrom<i64>>(&mut self, most: i64) -> Result<T, Fault<'a>>
     where
         T::Error: Drop,
+        ensures within { IfOk result (λ value. IsWithin T.try_from_gives (pos 0) most value) }
+        ensures tail { Tail self.old.rest.now self.new.rest.now }
     {
         match self.next_cell() {
             None => Err(Fault::TooFew {
@@ -151,7 +157,9 @@ impl<'a> Fields<'a> {
     }
 
     // The seven numbers of a record before its tokens.
-    fn next_head(&mut self) -> Result<Head, Fault<'a>> {
+    fn next_head(&mut self) -> Result<Head, Fault<'a>>
+        ensures { Tail self.old.rest.now self.new.rest.now }
+    {
         Ok(Head {
             x: self.next_number(65535)?,
             y: self.next_number(65535)?,
@@ -457,7 +465,9 @@ impl Clip {
 
 // Where reading goes on in a line, if it does: not where the text has no more byte.
 fn onward<'a>(text: &'a [u8], line: Line<'a>, left: Option<Fields<'a>>) -> Option<&'a [u8]>
-    ensures { IfSome result (λ rest. length rest.now < length text.now) }
+    ensures onward { IfSome result (λ rest. length rest.now < length text.now) }
+    ensures tail { IfSome result (λ rest. Tail text.now rest.now) }
+    ensures next { IfSome result (λ rest. length line.entry.rest.now ≤ length rest.now) }
 {
     let done = left?.done();
     if done == 0 || text.len().saturating_sub(line.rest.len()) <= done {

@@ -2,7 +2,7 @@
 #![tactic(auto)]
 
 ghost use Rattle.std.specs.Prelude.{◌≡◌, ◌+◌, ◌≤◌, ◌<◌, length, IfSome};
-ghost use Rattle.clip_rows.specs.Rows.{Said};
+ghost use Rattle.clip_rows.specs.Rows.{Front, Piece, Said, Tail};
 
 // A line without its end, and the lines after it.
 #[derive(Clone, Copy)]
@@ -57,7 +57,7 @@ fn is_mark(b: u8) -> bool {
 
 // The text from its first byte on that is no blank.
 pub fn skip_blanks(text: &[u8]) -> &[u8]
-    ensures { length result.now ≤ length text.now }
+    ensures { Tail text.now result.now }
 {
     let blanks = text
         .iter()
@@ -68,7 +68,7 @@ pub fn skip_blanks(text: &[u8]) -> &[u8]
 
 // The text without the blanks and separators at its end.
 pub fn trimmed(text: &[u8], separator: Separator) -> &[u8]
-    ensures { length result.now ≤ length text.now }
+    ensures { Front text.now result.now }
 {
     match text
         .iter()
@@ -90,7 +90,7 @@ fn word_length(text: &[u8], separator: Separator) -> usize
 
 // What follows one comma, semicolon or tab, where one is there.
 fn past_mark(text: &[u8]) -> &[u8]
-    ensures { length result.now ≤ length text.now }
+    ensures { Tail text.now result.now }
 {
     match text.split_first() {
         Some((&b, rest)) if is_mark(b) => rest,
@@ -103,6 +103,8 @@ pub fn first_field(row: &[u8]) -> Field
     requires { 0 < length row.now }
     ensures within { length result.text.now + length result.rest.now ≤ length row.now }
     ensures onward { length result.rest.now < length row.now }
+    ensures tail { Tail row.now result.rest.now }
+    ensures piece { Piece row.now result.rest.now result.text.now }
 {
     let word = skip_blanks(row);
     match word.split_first() {
@@ -143,6 +145,8 @@ fn next_word(row: &[u8]) -> Field
     requires { 0 < length row.now }
     ensures within { length result.text.now + length result.rest.now ≤ length row.now }
     ensures onward { length result.rest.now < length row.now }
+    ensures tail { Tail row.now result.rest.now }
+    ensures piece { Piece row.now result.rest.now result.text.now }
 {
     let word = skip_blanks(row);
     match word.split_first() {
@@ -165,6 +169,8 @@ fn next_cell(row: &[u8], separator: Separator) -> Field
     requires { 0 < length row.now }
     ensures within { length result.text.now + length result.rest.now ≤ length row.now }
     ensures onward { length result.rest.now < length row.now }
+    ensures tail { Tail row.now result.rest.now }
+    ensures piece { Piece row.now result.rest.now result.text.now }
 {
     let (cell, left) = row.split_at(cell_end(row, separator));
     Field {
@@ -178,6 +184,8 @@ pub fn next_field(row: &[u8], separator: Separator) -> Field
     requires { 0 < length row.now }
     ensures within { length result.text.now + length result.rest.now ≤ length row.now }
     ensures onward { length result.rest.now < length row.now }
+    ensures tail { Tail row.now result.rest.now }
+    ensures piece { Piece row.now result.rest.now result.text.now }
 {
     match separator {
         Separator::Blank => next_word(row),
@@ -200,6 +208,8 @@ pub fn next_line(text: &[u8]) -> Line
     requires { 0 < length text.now }
     ensures within { length result.text.now ≤ length text.now }
     ensures onward { length result.rest.now < length text.now }
+    ensures front { Front text.now result.text.now }
+    ensures tail { Tail text.now result.rest.now }
 {
     for i in 0..text.len() {
         if line_ends(&text[i..]) {
@@ -217,7 +227,7 @@ pub fn next_line(text: &[u8]) -> Line
 
 // The text past the mark of UTF-8 that spreadsheets put at the start.
 pub fn past_utf8_mark(text: &[u8]) -> &[u8]
-    ensures { length result.now ≤ length text.now }
+    ensures { Tail text.now result.now }
 {
     if text.starts_with(b"\xef\xbb\xbf") {
         &text[3..]
@@ -251,7 +261,9 @@ fn read_digits(digits: &[u8]) -> Option<i64> {
 
 // COUNT*VALUE, parted at its star.
 pub fn at_star(field: &[u8]) -> Option<(&[u8], &[u8])>
-    ensures { IfSome result (λ p. length p.0.now + 1 + length p.1.now ≡ length field.now) }
+    ensures whole { IfSome result (λ p. length p.0.now + 1 + length p.1.now ≡ length field.now) }
+    ensures front { IfSome result (λ p. Front field.now p.0.now) }
+    ensures tail { IfSome result (λ p. Tail field.now p.1.now) }
 {
     let star = field.iter().position(|&b| b == b'*')?;
     Some((&field[..star], &field[star + 1..]))
