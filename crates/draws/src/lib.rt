@@ -3,7 +3,7 @@
 // of 64 bits from all numbers that it was fed.
 #![tactic(auto)]
 
-ghost use Rattle.std.specs.Prelude.{◌≡◌, ◌<◌, ◌≤◌, length, take};
+ghost use Rattle.std.specs.Prelude.{◌≡◌, ◌<◌, ◌≤◌, ℕ, length, take, slice_index_or};
 
 // Each half of a number times an odd constant, the halves of the second product crossed over.
 fn stir(x: u64) -> u64 {
@@ -102,10 +102,11 @@ pub fn edge(r: u64) -> i64 {
 // Puts what is made of each place there.
 pub fn fill_by<T: Copy, F: Fn(u64) -> T>(list: &mut [T], make: F)
     requires { F.IsAlwaysCallable make }
-    ensures { length list.new ≡ length list.old }
+    ensures len { length list.new ≡ length list.old }
+    ensures made { (k : ℕ) (d : T) → k < length list.new → F.post make k (slice_index_or list.new k d) }
 {
-    for (place, x) in list.iter_mut().enumerate() {
-        *x = make(place as u64);
+    for place in 0..list.len() {
+        list[place] = make(place as u64);
     }
 }
 

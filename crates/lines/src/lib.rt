@@ -3,9 +3,7 @@
 // then means nothing.
 #![tactic(auto)]
 
-ghost use Rattle.std.specs.Prelude.{◌≡◌, ◌↔◌, ◌<◌, ◌≤◌, IsTrue, IfOk, length, []};
-
-use std::str::{self, FromStr};
+ghost use Rattle.std.specs.Prelude.{◌≡◌, ◌↔◌, ◌<◌, ◌≤◌, IsTrue, IfOk, length, [], if◌then◌else◌, ℤ, pos, neg_ℤ};
 
 // Something else stands in a line than was asked for.
 #[derive(Clone, Copy, PartialEq, Eq, Debug)]
@@ -24,24 +22,102 @@ struct Run {
     value: i64,
 }
 
-// How long a number's text at the front is: digits, behind a minus sign or not. There may be no digit.
-fn numeral_length(line: &[u8]) -> usize
-    ensures { result ≤ length line.now }
-{
-    let unsigned = line.strip_prefix(b"-").unwrap_or(line);
-    let behind = unsigned.iter().position(|b| !b.is_ascii_digit());
-    line.len() - unsigned.len() + behind.unwrap_or(unsigned.len())
+// A number with its sign apart.
+#[derive(Clone, Copy)]
+pub struct Numeral {
+    pub minus: bool,
+    pub magnitude: u64,
 }
 
-// The number that a text is, if T holds it.
-fn number_of<T: FromStr>(text: &[u8]) -> Result<T, Broken>
-where
-    T::Err: Drop,
-{
-    match str::from_utf8(text) {
-        Ok(text) => text.parse::<T>().map_err(|_| Broken),
-        Err(_) => Err(Broken),
+impl Numeral {
+    // The number, which 128 bits hold.
+    fn wide(self) -> i128
+        ensures { result ≡ (if self.minus then neg_ℤ (pos self.magnitude) else pos self.magnitude) }
+    {
+        let magnitude = i128::from(self.magnitude);
+        if self.minus { -magnitude } else { magnitude }
     }
+}
+
+// What a line's numbers are read as. A type without a sign takes no minus, before 0 neither.
+pub trait Number: Sized {
+    // A value as a whole number.
+    ghost whole: { Self → ℤ };
+
+    // The number of a numeral, if the type holds it.
+    fn of(numeral: Numeral) -> Result<Self, Broken>
+        ensures { IfOk result (λ n. whole n ≡ (if numeral.minus then neg_ℤ (pos numeral.magnitude) else pos numeral.magnitude)) };
+}
+
+impl Number for u64 {
+    ghost whole = { λ n. pos n };
+
+    fn of(numeral: Numeral) -> Result<u64, Broken> {
+        if numeral.minus {
+            return Err(Broken);
+        }
+        Ok(numeral.magnitude)
+    }
+}
+
+impl Number for u32 {
+    ghost whole = { λ n. pos n };
+
+    fn of(numeral: Numeral) -> Result<u32, Broken> {
+        u32::try_from(u64::of(numeral)?).map_err(|_| Broken)
+    }
+}
+
+impl Number for u8 {
+    ghost whole = { λ n. pos n };
+
+    fn of(numeral: Numeral) -> Result<u8, Broken> {
+        u8::try_from(u64::of(numeral)?).map_err(|_| Broken)
+    }
+}
+
+impl Number for usize {
+    ghost whole = { λ n. pos n };
+
+    fn of(numeral: Numeral) -> Result<usize, Broken> {
+        usize::try_from(u64::of(numeral)?).map_err(|_| Broken)
+    }
+}
+
+impl Number for i64 {
+    ghost whole = { λ n. n };
+
+    fn of(numeral: Numeral) -> Result<i64, Broken> {
+        i64::try_from(numeral.wide()).map_err(|_| Broken)
+    }
+}
+
+impl Number for i32 {
+    ghost whole = { λ n. n };
+
+    fn of(numeral: Numeral) -> Result<i32, Broken> {
+        i32::try_from(numeral.wide()).map_err(|_| Broken)
+    }
+}
+
+// All digits at the front as a number, and how many they are: at least one, and 64 bits hold the number.
+fn read_digits(text: &[u8]) -> Result<(u64, usize), Broken>
+    ensures { IfOk result (λ r. r.1 ≤ length text.now) }
+{
+    let mut value = 0u64;
+    let mut count = 0;
+    while count < text.len() && text[count].is_ascii_digit() {
+        let d = u64::from(text[count] - b'0');
+        if (18446744073709551615 - d) / 10 < value {
+            return Err(Broken);
+        }
+        value = value * 10 + d;
+        count += 1;
+    }
+    if count == 0 {
+        return Err(Broken);
+    }
+    Ok((value, count))
 }
 
 impl<'a> Line<'a> {
@@ -64,26 +140,21 @@ impl<'a> Line<'a> {
         Ok(())
     }
 
-    // The text of a number at the front.
-    fn numeral(&mut self) -> &'a [u8] {
-        let (numeral, behind) = self.rest.split_at(numeral_length(self.rest));
-        self.rest = behind;
-        numeral
+    // The sign and the digits at the front.
+    fn numeral(&mut self) -> Result<Numeral, Broken> {
+        let minus = self.skip(b'-').is_ok();
+        let (magnitude, count) = read_digits(self.rest)?;
+        self.rest = &self.rest[count..];
+        Ok(Numeral { minus, magnitude })
     }
 
     // The number with which the line begins, if T holds it.
-    pub fn first<T: FromStr>(&mut self) -> Result<T, Broken>
-    where
-        T::Err: Drop,
-    {
-        number_of(self.numeral())
+    pub fn first<T: Number>(&mut self) -> Result<T, Broken> {
+        T::of(self.numeral()?)
     }
 
     // The number behind a space, if T holds it.
-    pub fn number<T: FromStr>(&mut self) -> Result<T, Broken>
-    where
-        T::Err: Drop,
-    {
+    pub fn number<T: Number>(&mut self) -> Result<T, Broken> {
         self.skip(b' ')?;
         self.first()
     }
@@ -102,14 +173,14 @@ impl<'a> Line<'a> {
         ensures { IfOk result (λ run. 0 < run.count) }
     {
         self.skip(b' ')?;
-        let numeral = self.numeral();
+        let numeral = self.numeral()?;
         if self.skip(b'*').is_err() {
             return Ok(Run {
                 count: 1,
-                value: number_of(numeral)?,
+                value: i64::of(numeral)?,
             });
         }
-        let count = number_of(numeral)?;
+        let count = usize::of(numeral)?;
         if count == 0 {
             return Err(Broken);
         }
@@ -169,10 +240,7 @@ impl<'a> Line<'a> {
     }
 
     // This number.
-    pub fn same<T: FromStr + PartialEq + Drop>(&mut self, found: T) -> Result<(), Broken>
-    where
-        T::Err: Drop,
-    {
+    pub fn same<T: Number + PartialEq + Drop>(&mut self, found: T) -> Result<(), Broken> {
         if self.number::<T>()? == found {
             return Ok(());
         }
