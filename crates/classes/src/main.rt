@@ -139,25 +139,33 @@ fn run_argument<R: Env + Files + Input, E: Write>(
     run_file(rt, errors, &path[..n], report)
 }
 
+// A line: its letter, and each number behind a space. Each piece is written by itself.
+fn print_line<O: Write>(output: &mut O, letter: &[u8], numbers: &[u64]) -> io::Result<()> {
+    output.write_all(letter)?;
+    for number in numbers {
+        write!(output, " {number}")?;
+    }
+    output.write_all(b"\n")
+}
+
 // A line for each size and class: size, class, count, sum; then the total.
 fn print_report<O: Write>(output: &mut O, report: &Report) -> io::Result<()> {
     for (k, (count, sum)) in report.counts.iter().zip(&report.sums).enumerate() {
-        let size = k / 11;
-        let class = k % 11;
-        writeln!(output, "C {size} {class} {count} {sum}")?;
+        let size = k as u64 / 11;
+        let class = k as u64 % 11;
+        print_line(output, b"C", &[size, class, u64::from(*count), *sum])?;
     }
-    let total = report.total();
-    writeln!(output, "N {total}")
+    print_line(output, b"N", &[report.total()])
 }
 
 // A file's name as the first field of a row, between quotation marks: a byte that is a mark itself stands twice.
 fn print_name<O: Write>(output: &mut O, name: &[u8]) -> io::Result<()> {
     output.write_all(b"\"")?;
     for byte in name {
-        if *byte == b'"' {
-            output.write_all(b"\"")?;
+        match *byte {
+            b'"' => output.write_all(b"\"\"")?,
+            other => output.write_all(&[other])?,
         }
-        output.write_all(&[*byte])?;
     }
     output.write_all(b"\"")
 }

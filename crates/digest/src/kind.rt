@@ -41,24 +41,25 @@ impl Kind {
         Kind::VbkWrite,
     ];
 
+    // In 31 bytes, as far as the digest's column.
     pub fn name(self) -> &'static str {
         match self {
-            Kind::InverseTransform2d => "inverse_transform_2d",
-            Kind::InverseTransform2dReference => "inverse_transform_2d_reference",
-            Kind::ReconstructBlock => "reconstruct_block",
-            Kind::ForwardWht2d => "forward_wht_2d",
-            Kind::QuantizeBlockTx => "quantize_block_tx",
-            Kind::QuantizeBlock => "quantize_block",
-            Kind::MaxCodeableCoef => "max_codeable_coef",
-            Kind::ReplayAndBlockrun => "replay and blockrun",
-            Kind::ReconstructBlockReport => "reconstruct_block_report",
-            Kind::RowSummary => "row_summary",
-            Kind::ReplaceToken => "replace_token",
-            Kind::InverseTransform2dRows => "inverse_transform_2d_rows",
-            Kind::InverseTransform2d32 => "inverse_transform_2d_32",
-            Kind::ForwardDct2d => "forward_dct_2d",
-            Kind::QuantizeBlockRule => "quantize_block_rule",
-            Kind::VbkWrite => "vbk_write",
+            Kind::InverseTransform2d => "inverse_transform_2d           ",
+            Kind::InverseTransform2dReference => "inverse_transform_2d_reference ",
+            Kind::ReconstructBlock => "reconstruct_block              ",
+            Kind::ForwardWht2d => "forward_wht_2d                 ",
+            Kind::QuantizeBlockTx => "quantize_block_tx              ",
+            Kind::QuantizeBlock => "quantize_block                 ",
+            Kind::MaxCodeableCoef => "max_codeable_coef              ",
+            Kind::ReplayAndBlockrun => "replay and blockrun            ",
+            Kind::ReconstructBlockReport => "reconstruct_block_report       ",
+            Kind::RowSummary => "row_summary                    ",
+            Kind::ReplaceToken => "replace_token                  ",
+            Kind::InverseTransform2dRows => "inverse_transform_2d_rows      ",
+            Kind::InverseTransform2d32 => "inverse_transform_2d_32        ",
+            Kind::ForwardDct2d => "forward_dct_2d                 ",
+            Kind::QuantizeBlockRule => "quantize_block_rule            ",
+            Kind::VbkWrite => "vbk_write                      ",
         }
     }
 

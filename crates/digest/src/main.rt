@@ -13,7 +13,7 @@ mod written;
 
 use kind::Kind;
 use lines::{Broken, Line};
-use std::io::{self, Write};
+use std::io::Write;
 
 // The digest of `count` calls of a kind.
 fn calls(kind: Kind, seed: u64, count: u64) -> u64 {
@@ -26,17 +26,23 @@ fn calls(kind: Kind, seed: u64, count: u64) -> u64 {
     digest
 }
 
-// A line for each kind, then the one number.
-fn print_all<O: Write>(output: &mut O, seed: u64, count: u64) -> io::Result<()> {
+// A line: a name, and a digest behind it, which is written by itself, though the name could not be. Whether all was written.
+fn print_line<O: Write>(output: &mut O, name: &str, digest: u64) -> bool {
+    let named = streams::write_all(output, name.as_bytes());
+    let told = streams::print_hex(output, digest) && streams::write_all(output, b"\n");
+    named && told
+}
+
+// A line for each kind, then the one number. A line that cannot be written holds back none behind it.
+fn print_all<O: Write>(output: &mut O, seed: u64, count: u64) -> bool {
     let mut digest = draws::feed(seed, count);
+    let mut whole = true;
     for kind in Kind::ALL {
-        let name = kind.name();
         let of_kind = calls(kind, seed, count);
         digest = draws::feed(digest, of_kind);
-        writeln!(output, "{name:<31}{of_kind:016x}")?;
+        whole &= print_line(output, kind.name(), of_kind);
     }
-    let name = "digest";
-    writeln!(output, "{name:<31}{digest:016x}")
+    print_line(output, "digest                         ", digest) && whole
 }
 
 // The seed, and how many calls of each kind.
@@ -55,7 +61,7 @@ fn main(rt: HostRuntime) {
         streams::write_all(&mut errors, b"no seed and count on standard input\n");
         return;
     };
-    if print_all(&mut rt.stdout(), seed, count).is_err() {
+    if !print_all(&mut rt.stdout(), seed, count) {
         streams::write_all(&mut errors, b"the digest could not be written to its end\n");
     }
 }

@@ -6,10 +6,23 @@ ghost use Rattle.std.specs.Prelude.{◌<◌, length};
 use plane::Plane;
 use quant::{AcQuant, DcQuant};
 use std::fmt::Display;
-use std::io::{self, Write};
+use std::io::Write;
 
-fn show<O: Write, T: Display + Drop>(output: &mut O, call: &str, value: T) -> io::Result<()> {
-    writeln!(output, "{call}{value}")
+// A call and what it gives. A piece that cannot be written is seen to be missing by who reads them, and holds back none behind it.
+fn show<O: Write, T: Display + Drop>(output: &mut O, call: &str, value: T) {
+    let _ = output.write_all(call.as_bytes());
+    let _ = write!(output, "{value}");
+    let _ = output.write_all(b"\n");
+}
+
+// The same of a number with a sign, which is written by itself.
+fn show_signed<O: Write>(output: &mut O, call: &str, value: i64) {
+    let _ = output.write_all(call.as_bytes());
+    show(
+        output,
+        if value < 0 { "-" } else { "" },
+        value.unsigned_abs(),
+    );
 }
 
 // The number of reconstruction's answer: one token at place 1 of a block, over samples of 100.
@@ -55,11 +68,12 @@ fn answer_32(token: i64, ac: i32, depth: u32) -> u32 {
     answer_to(&mut [0; 0], 0, 3, &mut [0; 1024], token, ac, depth)
 }
 
-fn show_row<O: Write>(output: &mut O, row: &[u16]) -> io::Result<()> {
+fn show_row<O: Write>(output: &mut O, row: &[u16]) {
     for sample in row {
-        write!(output, " {sample}")?;
+        let _ = output.write_all(b" ");
+        let _ = write!(output, "{sample}");
     }
-    writeln!(output)
+    let _ = output.write_all(b"\n");
 }
 
 // A plane of 6 by 5 samples after a lossless block at x, y whose residual is above 0 everywhere. What a line has past its sixth sample is
@@ -71,7 +85,7 @@ fn show_plane<O: Write>(
     stride: usize,
     x: usize,
     y: usize,
-) -> io::Result<()>
+)
     requires { 0 < stride }
 {
     let mut tokens = [0i64; 16];
@@ -94,42 +108,44 @@ fn show_plane<O: Write>(
         true,
         8,
     );
-    show(output, call, answers::code(answer))?;
+    show(output, call, answers::code(answer));
     for row in samples.chunks(stride) {
-        show_row(output, row)?;
+        show_row(output, row);
     }
-    Ok(())
 }
 
-fn show_coefficients<O: Write>(output: &mut O) -> io::Result<()> {
-    show(
+fn show_coefficients<O: Write>(output: &mut O) {
+    show_signed(
         output,
         "32 by 32, DC quantizer 7, token 5: ",
         quant::dequant(DcQuant(7), 5, 3),
-    )?;
-    show(
+    );
+    show_signed(
         output,
         "32 by 32, AC quantizer 7, token -5: ",
         quant::dequant(AcQuant(7), -5, 3),
-    )?;
-    show(
+    );
+    show_signed(
         output,
         "4 by 4, AC quantizer 8159, token 16450: ",
         quant::dequant(AcQuant(8159), 16450, 0),
-    )?;
-    show(
+    );
+    show_signed(
         output,
         "32 by 32, AC quantizer 16318, token 16450: ",
         quant::dequant(AcQuant(16318), 16450, 3),
-    )
+    );
 }
 
-fn show_codeable<O: Write>(output: &mut O) -> io::Result<()> {
-    for depth in [8u32, 10, 12, 9] {
-        let most = quant::max_codeable_coef(depth);
-        writeln!(output, "codeable at depth {depth}: {most}")?;
+fn show_codeable<O: Write>(output: &mut O) {
+    for (call, depth) in [
+        ("codeable at depth 8: ", 8u32),
+        ("codeable at depth 10: ", 10),
+        ("codeable at depth 12: ", 12),
+        ("codeable at depth 9: ", 9),
+    ] {
+        show(output, call, quant::max_codeable_coef(depth));
     }
-    Ok(())
 }
 
 // The answer of the 2D driver to one coefficient at place 0 of a 4 by 4 block.
@@ -153,87 +169,102 @@ fn answer_quantizer(coef: i64) -> u32 {
 }
 
 // The coefficients' limit, and one past it.
-const LIMITS: [i64; 4] = [2147483648, -2147483648, 2147483649, -2147483649];
-
-fn show_limits<O: Write>(output: &mut O) -> io::Result<()> {
-    for coef in LIMITS {
-        let answer = answer_driver(coef);
-        writeln!(output, "2D driver, {coef}: answer {answer}")?;
+fn show_limits<O: Write>(output: &mut O) {
+    for (call, coef) in [
+        ("2D driver, 2147483648: answer ", 2147483648),
+        ("2D driver, -2147483648: answer ", -2147483648),
+        ("2D driver, 2147483649: answer ", 2147483649),
+        ("2D driver, -2147483649: answer ", -2147483649),
+    ] {
+        show(output, call, answer_driver(coef));
     }
-    for coef in LIMITS {
-        let answer = answer_quantizer(coef);
-        writeln!(output, "quantizer, {coef}: answer {answer}")?;
+    for (call, coef) in [
+        ("quantizer, 2147483648: answer ", 2147483648),
+        ("quantizer, -2147483648: answer ", -2147483648),
+        ("quantizer, 2147483649: answer ", 2147483649),
+        ("quantizer, -2147483649: answer ", -2147483649),
+    ] {
+        show(output, call, answer_quantizer(coef));
     }
-    Ok(())
 }
 
-fn show_answers<O: Write>(output: &mut O) -> io::Result<()> {
+fn show_answers<O: Write>(output: &mut O) {
     show(
         output,
         "4 by 4, AC quantizer 8159, token 16450: answer ",
         answer_4(16450, 8159, 8),
-    )?;
+    );
     show(
         output,
         "4 by 4, AC quantizer 8160, token 16450: answer ",
         answer_4(16450, 8160, 8),
-    )?;
+    );
     show(
         output,
         "4 by 4, AC quantizer 8159, token 16451: answer ",
         answer_4(16451, 8159, 8),
-    )?;
+    );
     show(
         output,
         "32 by 32, AC quantizer 16318, token 16450: answer ",
         answer_32(16450, 16318, 8),
-    )?;
+    );
     show(
         output,
         "32 by 32, AC quantizer 16319, token 16450: answer ",
         answer_32(16450, 16319, 8),
-    )?;
+    );
     show(
         output,
         "depth 12, 4 by 4, AC quantizer 32767, token 65536: answer ",
         answer_4(65536, 32767, 12),
-    )?;
+    );
     show(
         output,
         "depth 12, 4 by 4, AC quantizer 32767, token 65539: answer ",
         answer_4(65539, 32767, 12),
-    )?;
+    );
     show(
         output,
         "depth 12, 32 by 32, AC quantizer 16384, token 262144: answer ",
         answer_32(262144, 16384, 12),
-    )?;
+    );
     show(
         output,
         "depth 12, 32 by 32, AC quantizer 16384, token 262145: answer ",
         answer_32(262145, 16384, 12),
-    )
+    );
 }
 
-fn show_all<O: Write>(output: &mut O) -> io::Result<()> {
-    show(output, "brev(3, 6): ", primitives::brev(3, 6))?;
-    show_coefficients(output)?;
-    show_codeable(output)?;
-    show_answers(output)?;
-    show_limits(output)?;
-    show_plane(output, "plane 6 by 5, answer ", &mut [100; 30], 6, 4, 3)?;
+fn main(rt: HostRuntime) {
+    let mut output = rt.stdout();
+    show(&mut output, "brev(3, 6): ", primitives::brev(3, 6));
+    show_coefficients(&mut output);
+    show_codeable(&mut output);
+    show_answers(&mut output);
+    show_limits(&mut output);
     show_plane(
-        output,
+        &mut output,
+        "plane 6 by 5, answer ",
+        &mut [100; 30],
+        6,
+        4,
+        3,
+    );
+    show_plane(
+        &mut output,
         "plane 6 by 5, stride 8, answer ",
         &mut [100; 40],
         8,
         4,
         3,
-    )?;
-    show_plane(output, "plane 6 by 5, answer ", &mut [100; 30], 6, 6, 3)
-}
-
-fn main(rt: HostRuntime) {
-    // numbers that cannot be written are seen to be missing by who reads them
-    let _ = show_all(&mut rt.stdout());
+    );
+    show_plane(
+        &mut output,
+        "plane 6 by 5, answer ",
+        &mut [100; 30],
+        6,
+        6,
+        3,
+    );
 }

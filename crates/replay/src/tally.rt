@@ -1,7 +1,6 @@
 // Counts of a kind's lines: those that are the same, that differ, that were skipped, and the first that differs.
 use crate::verdict::Verdict;
-use std::fmt;
-use std::io::{self, Write};
+use std::io::Write;
 
 // Kinds that have counts of their own.
 pub const KINDS: usize = 64;
@@ -36,25 +35,29 @@ impl Counts {
     }
 }
 
-impl fmt::Display for Counts {
-    fn fmt<W: fmt::Write>(&self, f: &mut fmt::Formatter<W>) -> fmt::Result {
-        let same = self.same;
-        let differ = self.differ;
-        let skipped = self.skipped;
-        write!(f, "same {same} differ {differ} skipped {skipped}")?;
-        match self.first {
-            Some(first) => write!(f, " first {first}"),
-            None => Ok(()),
-        }
+// The line of a kind. Each piece is written by itself, and one that cannot be written holds back none behind it.
+fn print_kind<O: Write>(output: &mut O, kind: usize, counts: &Counts) {
+    for (words, n) in [
+        ("kind ", kind as u64),
+        (" same ", counts.same),
+        (" differ ", counts.differ),
+        (" skipped ", counts.skipped),
+    ] {
+        streams::write_all(output, words.as_bytes());
+        streams::print_decimal(output, n);
     }
+    if let Some(first) = counts.first {
+        streams::write_all(output, b" first ");
+        streams::print_decimal(output, first);
+    }
+    streams::write_all(output, b"\n");
 }
 
 // A line for each kind that was met.
-pub fn print<O: Write>(output: &mut O, counts: &[Counts; KINDS]) -> io::Result<()> {
+pub fn print<O: Write>(output: &mut O, counts: &[Counts; KINDS]) {
     for (kind, count) in counts.iter().enumerate() {
         if *count != Counts::NONE {
-            writeln!(output, "kind {kind} {count}")?;
+            print_kind(output, kind, count);
         }
     }
-    Ok(())
 }
