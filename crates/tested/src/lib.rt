@@ -60,7 +60,7 @@ enum Step {
 
 // The steps of the inverse DCT, of 4, 8, 16 and 32 numbers the first 5, 14, 38 and 98; then those of the inverse ADST of 4, 8 and 16 numbers, 1, 22 and
 // 50; then the WHT of rows and that of columns.
-const STEPS: [Step; 173] = [
+static STEPS: [Step; 173] = [
     Step::Reverse,
     Step::Turn(0, 1, 16, true),
     Step::Turn(2, 3, 24, false),
@@ -483,11 +483,11 @@ fn apply(t: &mut [i16; 32], s: &mut [i32; 16], n: u32, step: Step) -> Result<(),
     }
 }
 
-// The table, once a pass: an array constant is built anew at each run-time index.
-fn table() -> [Step; 173]
-    ensures { Tables result }
+// The table, lent as it stands: an array constant is built anew in each call.
+fn table() -> &'static [Step; 173]
+    ensures { Tables result.now }
 {
-    STEPS
+    &STEPS
 }
 
 // The steps of a line.
@@ -595,8 +595,7 @@ pub fn columns(z: &mut [i16; 1024], n: u32, kind: Kind) -> Result<(), TooWide>
     requires { (2 ≤ n) × (n ≤ 5) × Sized kind n × (length z.old ≡ 1024) }
     ensures { Tells (is_ok result) (ColumnsKeep (pass_of kind) n z.entry.now) (z.exit.now ≡ columns (apply (pass_of kind) n) (λ z. z) (side n) z.entry.now) }
 {
-    let table = table();
-    let steps = steps(&table, n, kind);
+    let steps = steps(table(), n, kind);
     let n0 = answers::side(n);
     for j in 0..n0 {
         one(z, steps, j, n0, n, kind)?;
@@ -609,8 +608,7 @@ pub fn rows(z: &mut [i16; 1024], n: u32, kind: Kind) -> Result<(), TooWide>
     requires { (2 ≤ n) × (n ≤ 5) × Sized kind n × (length z.old ≡ 1024) }
     ensures { Tells (is_ok result) (RowsKeep (pass_of kind) n z.old) (z.new ≡ rows (apply (pass_of kind) n) (side n) z.old) }
 {
-    let table = table();
-    let steps = steps(&table, n, kind);
+    let steps = steps(table(), n, kind);
     let n0 = answers::side(n);
     for i in 0..n0 {
         one(z, steps, i * n0, 1, n, kind)?;
