@@ -1,52 +1,31 @@
-use Prim.Native.Nat.{◌^◌}
-use Rattle.whole.proofs.Steps.{left_last, Left}
-use Rattle.steps.specs.Step.{step}
-use Rattle.steps.specs.Inner.{Fine}
-use Rattle.dct.specs.Dct.{dct_steps, dct}
-use Rattle.dct.proofs.Dct.{dct_process}
 use Rattle.blocks.specs.Inverse.{apply}
 use Rattle.blocks.specs.Inner.{Safe}
 use Rattle.reference.proofs.apply_1d.Goals as goal
-use Rattle.reference.proofs.apply_1d.Goals.{After-idct_permute}
 
--- after the permutation, the process is left
-process : (c : After-idct_permute)
-    → Left step (Fine (2 ^ 46)) (dct_steps c.args.n) c.idct_permute.new.t (dct c.args.n c.args.t.now)
-unfolding Safe
-process c =
+pub dct_line-requires : goal.dct_line-requires
+dct_line-requires g c =
     let q = rw c.in-Dct.is at c.requires in
-    dct_process _ q.1 c.idct_permute.ensures
-
-pub idct_permute-requires : goal.idct_permute-requires
-idct_permute-requires c =
-    let q = rw c.in-Dct.is at c.requires in
-    q.0
-
-pub inverse_dct-r-requires : goal.inverse_dct-r-requires
-inverse_dct-r-requires c =
-    let q = rw c.in-Dct.is at c.requires in
-    (q.0.0, q.0.1, (process c.before).ok)
+    (q.1, q.2)
 
 pub inverse_adst-requires : goal.inverse_adst-requires
 unfolding Safe
-inverse_adst-requires c =
+inverse_adst-requires g c =
     let q = rw c.in-Adst.is at c.requires in
-    (q.0.0, q.0.1, q.1)
+    (q.1.0, q.1.1, q.2)
 
 pub inverse_wht-requires : goal.inverse_wht-requires
 unfolding Safe
-inverse_wht-requires c =
+inverse_wht-requires g c =
     let q = rw c.in-Wht.is at c.requires in
-    (q.0.1, q.1)
+    (q.1.1, q.2)
 
-pub returns-in-Dct : goal.returns-in-Dct
-unfolding apply
-returns-in-Dct c = rw c.in-Dct.is (left_last (process c.before.before) c.inverse_dct-r.ensures)
+pub returns-then-not-this : goal.returns-then-not-this
+returns-then-not-this g c = rw c.in-Dct.is c.dct_line.ensures
 
-pub returns-in-Adst : goal.returns-in-Adst
+pub returns-then-not-this-2 : goal.returns-then-not-this-2
 unfolding apply
-returns-in-Adst c = rw c.in-Adst.is c.inverse_adst.ensures
+returns-then-not-this-2 g c = rw c.in-Adst.is c.inverse_adst.ensures
 
-pub returns-in-Wht : goal.returns-in-Wht
+pub returns-then-this-ne0 : goal.returns-then-this-ne0
 unfolding apply
-returns-in-Wht c = rw c.in-Wht.is c.inverse_wht.ensures
+returns-then-this-ne0 g c = rw c.in-Wht.is c.inverse_wht.ensures
