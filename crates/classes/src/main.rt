@@ -139,23 +139,17 @@ fn run_argument<R: Env + Files + Input, E: Write>(
     run_file(rt, errors, &path[..n], report)
 }
 
-// A line: its letter, and each number behind a space. Each piece is written by itself.
-fn print_line<O: Write>(output: &mut O, letter: &[u8], numbers: &[u64]) -> io::Result<()> {
-    output.write_all(letter)?;
-    for number in numbers {
-        write!(output, " {number}")?;
-    }
-    output.write_all(b"\n")
-}
-
 // A line for each size and class: size, class, count, sum; then the total.
 fn print_report<O: Write>(output: &mut O, report: &Report) -> io::Result<()> {
     for (k, (count, sum)) in report.counts.iter().zip(&report.sums).enumerate() {
-        let size = k as u64 / 11;
-        let class = k as u64 % 11;
-        print_line(output, b"C", &[size, class, u64::from(*count), *sum])?;
+        let size = k / 11;
+        let class = k % 11;
+        output.write_all(b"C")?;
+        writeln!(output, " {size} {class} {count} {sum}")?;
     }
-    print_line(output, b"N", &[report.total()])
+    let total = report.total();
+    output.write_all(b"N")?;
+    writeln!(output, " {total}")
 }
 
 // A file's name as the first field of a row, between quotation marks: a byte that is a mark itself stands twice.

@@ -3,7 +3,7 @@
 // then means nothing.
 #![tactic(auto)]
 
-ghost use Rattle.std.specs.Prelude.{◌≡◌, ◌↔◌, ◌<◌, ◌≤◌, IsTrue, IfOk, length, [], if◌then◌else◌, ℤ, pos, neg_ℤ};
+ghost use Rattle.std.specs.Prelude.{◌≡◌, ◌↔◌, ◌<◌, ◌≤◌, IsTrue, IfOk, Ok, length, [], if◌then◌else◌, pos, neg_ℤ};
 
 // Something else stands in a line than was asked for.
 #[derive(Clone, Copy, PartialEq, Eq, Debug)]
@@ -24,9 +24,9 @@ struct Run {
 
 // A number with its sign apart.
 #[derive(Clone, Copy)]
-pub struct Numeral {
-    pub minus: bool,
-    pub magnitude: u64,
+struct Numeral {
+    minus: bool,
+    magnitude: u64,
 }
 
 impl Numeral {
@@ -37,66 +37,17 @@ impl Numeral {
         let magnitude = i128::from(self.magnitude);
         if self.minus { -magnitude } else { magnitude }
     }
-}
 
-// What a line's numbers are read as. A type without a sign takes no minus, before 0 neither.
-pub trait Number: Sized {
-    // A value as a whole number.
-    ghost whole: { Self → ℤ };
-
-    // The number of a numeral, if the type holds it.
-    fn of(numeral: Numeral) -> Result<Self, Broken>
-        ensures { IfOk result (λ n. whole n ≡ (if numeral.minus then neg_ℤ (pos numeral.magnitude) else pos numeral.magnitude)) };
-}
-
-impl Number for u64 {
-    ghost whole = { λ n. pos n };
-
-    fn of(numeral: Numeral) -> Result<u64, Broken> {
-        if numeral.minus {
+    // The number, if T holds it. A type without a sign takes no minus, before 0 neither.
+    fn value<T: TryFrom<i128> + Drop>(self) -> Result<T, Broken>
+    where
+        T::Error: Drop,
+        ensures { IfOk result (λ value. T.try_from_gives (if self.minus then neg_ℤ (pos self.magnitude) else pos self.magnitude) (Ok value)) }
+    {
+        if self.minus && T::try_from(-1).is_err() {
             return Err(Broken);
         }
-        Ok(numeral.magnitude)
-    }
-}
-
-impl Number for u32 {
-    ghost whole = { λ n. pos n };
-
-    fn of(numeral: Numeral) -> Result<u32, Broken> {
-        u32::try_from(u64::of(numeral)?).map_err(|_| Broken)
-    }
-}
-
-impl Number for u8 {
-    ghost whole = { λ n. pos n };
-
-    fn of(numeral: Numeral) -> Result<u8, Broken> {
-        u8::try_from(u64::of(numeral)?).map_err(|_| Broken)
-    }
-}
-
-impl Number for usize {
-    ghost whole = { λ n. pos n };
-
-    fn of(numeral: Numeral) -> Result<usize, Broken> {
-        usize::try_from(u64::of(numeral)?).map_err(|_| Broken)
-    }
-}
-
-impl Number for i64 {
-    ghost whole = { λ n. n };
-
-    fn of(numeral: Numeral) -> Result<i64, Broken> {
-        i64::try_from(numeral.wide()).map_err(|_| Broken)
-    }
-}
-
-impl Number for i32 {
-    ghost whole = { λ n. n };
-
-    fn of(numeral: Numeral) -> Result<i32, Broken> {
-        i32::try_from(numeral.wide()).map_err(|_| Broken)
+        T::try_from(self.wide()).map_err(|_| Broken)
     }
 }
 
@@ -149,12 +100,18 @@ impl<'a> Line<'a> {
     }
 
     // The number with which the line begins, if T holds it.
-    pub fn first<T: Number>(&mut self) -> Result<T, Broken> {
-        T::of(self.numeral()?)
+    pub fn first<T: TryFrom<i128> + Drop>(&mut self) -> Result<T, Broken>
+    where
+        T::Error: Drop,
+    {
+        self.numeral()?.value()
     }
 
     // The number behind a space, if T holds it.
-    pub fn number<T: Number>(&mut self) -> Result<T, Broken> {
+    pub fn number<T: TryFrom<i128> + Drop>(&mut self) -> Result<T, Broken>
+    where
+        T::Error: Drop,
+    {
         self.skip(b' ')?;
         self.first()
     }
@@ -177,10 +134,10 @@ impl<'a> Line<'a> {
         if self.skip(b'*').is_err() {
             return Ok(Run {
                 count: 1,
-                value: i64::of(numeral)?,
+                value: numeral.value()?,
             });
         }
-        let count = usize::of(numeral)?;
+        let count: usize = numeral.value()?;
         if count == 0 {
             return Err(Broken);
         }
@@ -240,7 +197,10 @@ impl<'a> Line<'a> {
     }
 
     // This number.
-    pub fn same<T: Number + PartialEq + Drop>(&mut self, found: T) -> Result<(), Broken> {
+    pub fn same<T: TryFrom<i128> + PartialEq + Drop>(&mut self, found: T) -> Result<(), Broken>
+    where
+        T::Error: Drop,
+    {
         if self.number::<T>()? == found {
             return Ok(());
         }
