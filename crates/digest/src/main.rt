@@ -48,8 +48,8 @@ fn print_all<O: Write>(output: &mut O, seed: u64, count: u64) -> bool {
 // The seed, and how many calls of each kind.
 fn seed_and_count(text: &[u8]) -> Result<(u64, u64), Broken> {
     let mut line = Line::new(text);
-    let seed = line.first()?;
-    let count = line.number()?;
+    let seed = line.first_integer()?;
+    let count = line.integer()?;
     Ok((seed, count))
 }
 

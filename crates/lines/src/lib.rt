@@ -3,7 +3,10 @@
 // then means nothing.
 #![tactic(auto)]
 
-ghost use Rattle.std.specs.Prelude.{◌≡◌, ◌↔◌, ◌<◌, ◌≤◌, IsTrue, IfOk, Ok, length, [], if◌then◌else◌, pos, neg_ℤ};
+ghost use Rattle.std.specs.Prelude.{◌≡◌, ◌↔◌, ◌<◌, ◌≤◌, IsTrue, IfOk, Ok, length, [], ◌∷◌, if◌then◌else◌, pos, neg_ℤ, true};
+ghost use Rattle.lines.specs.Numbers.{IsFirst, IsNumber};
+
+use std::str::{self, FromStr};
 
 // Something else stands in a line than was asked for.
 #[derive(Clone, Copy, PartialEq, Eq, Debug)]
@@ -71,6 +74,27 @@ fn read_digits(text: &[u8]) -> Result<(u64, usize), Broken>
     Ok((value, count))
 }
 
+// How long a number's text at the front is: digits, behind a minus sign or not. There may be no digit.
+fn numeral_length(text: &[u8]) -> usize
+    ensures { result ≤ length text.now }
+{
+    let unsigned = text.strip_prefix(b"-").unwrap_or(text);
+    let behind = unsigned.iter().position(|b| !b.is_ascii_digit());
+    text.len() - unsigned.len() + behind.unwrap_or(unsigned.len())
+}
+
+// The number that a text is, as T reads it.
+fn number_of<T: FromStr>(text: &[u8]) -> Result<T, Broken>
+where
+    T::Err: Drop,
+    ensures { IfOk result (λ value. T.from_str_gives text.now (Ok value)) }
+{
+    match str::from_utf8(text) {
+        Ok(text) => text.parse::<T>().map_err(|_| Broken),
+        Err(_) => Err(Broken),
+    }
+}
+
 impl<'a> Line<'a> {
     pub fn new(text: &'a [u8]) -> Self
         ensures { result.rest.now ≡ text.now }
@@ -86,7 +110,9 @@ impl<'a> Line<'a> {
     }
 
     // The byte at the front is this one.
-    fn skip(&mut self, byte: u8) -> Result<(), Broken> {
+    fn skip(&mut self, byte: u8) -> Result<(), Broken>
+        ensures { IfOk result (λ _. self.old.rest.now ≡ byte ∷ self.new.rest.now) }
+    {
         self.rest = self.rest.strip_prefix(&[byte]).ok_or(Broken)?;
         Ok(())
     }
@@ -99,18 +125,39 @@ impl<'a> Line<'a> {
         Ok(Numeral { minus, magnitude })
     }
 
-    // The number with which the line begins, if T holds it.
-    pub fn first<T: TryFrom<i128> + Drop>(&mut self) -> Result<T, Broken>
+    // The whole number with which the line begins, if its digits fit in 64 bits and T holds it.
+    pub fn first_integer<T: TryFrom<i128> + Drop>(&mut self) -> Result<T, Broken>
     where
         T::Error: Drop,
     {
         self.numeral()?.value()
     }
 
-    // The number behind a space, if T holds it.
-    pub fn number<T: TryFrom<i128> + Drop>(&mut self) -> Result<T, Broken>
+    // The same behind a space.
+    pub fn integer<T: TryFrom<i128> + Drop>(&mut self) -> Result<T, Broken>
     where
         T::Error: Drop,
+    {
+        self.skip(b' ')?;
+        self.first_integer()
+    }
+
+    // The number with which the line begins, however long, as T reads its text. `first_integer` takes one pass where this takes three.
+    pub fn first<T: FromStr>(&mut self) -> Result<T, Broken>
+    where
+        T::Err: Drop,
+        ensures { IfOk result (λ value. IsFirst T.from_str_gives self.old.rest.now self.new.rest.now value) }
+    {
+        let (text, behind) = self.rest.split_at(numeral_length(self.rest));
+        self.rest = behind;
+        number_of(text)
+    }
+
+    // The same behind a space.
+    pub fn number<T: FromStr>(&mut self) -> Result<T, Broken>
+    where
+        T::Err: Drop,
+        ensures { IfOk result (λ value. IsNumber T.from_str_gives self.old.rest.now self.new.rest.now value) }
     {
         self.skip(b' ')?;
         self.first()
@@ -118,7 +165,7 @@ impl<'a> Line<'a> {
 
     // A 0 or a 1 as a flag.
     pub fn flag(&mut self) -> Result<bool, Broken> {
-        match self.number::<u64>()? {
+        match self.integer::<u64>()? {
             0 => Ok(false),
             1 => Ok(true),
             _ => Err(Broken),
@@ -143,7 +190,7 @@ impl<'a> Line<'a> {
         }
         Ok(Run {
             count,
-            value: self.first()?,
+            value: self.first_integer()?,
         })
     }
 
@@ -165,7 +212,7 @@ impl<'a> Line<'a> {
         requires { F.IsAlwaysCallable make }
         ensures { IfOk result (λ count. count ≤ length into.new) }
     {
-        let count = self.number::<usize>()?;
+        let count = self.integer::<usize>()?;
         if into.len() < count {
             return Err(Broken);
         }
@@ -196,10 +243,25 @@ impl<'a> Line<'a> {
         Err(Broken)
     }
 
-    // This number.
-    pub fn same<T: TryFrom<i128> + PartialEq + Drop>(&mut self, found: T) -> Result<(), Broken>
+    // This whole number, behind a space.
+    pub fn same_integer<T: TryFrom<i128> + PartialEq + Drop>(
+        &mut self,
+        found: T,
+    ) -> Result<(), Broken>
     where
         T::Error: Drop,
+    {
+        if self.integer::<T>()? == found {
+            return Ok(());
+        }
+        Err(Broken)
+    }
+
+    // This number behind a space, as T reads its text.
+    pub fn same<T: FromStr + PartialEq + Drop>(&mut self, found: T) -> Result<(), Broken>
+    where
+        T::Err: Drop,
+        ensures { IfOk result (λ _. (value : T) × IsNumber T.from_str_gives self.old.rest.now self.new.rest.now value × (T.eq value found ≡ true)) }
     {
         if self.number::<T>()? == found {
             return Ok(());
@@ -209,7 +271,7 @@ impl<'a> Line<'a> {
 
     // This list.
     pub fn same_list<T: Copy + Into<i64>>(&mut self, found: &[T]) -> Result<(), Broken> {
-        if self.number::<usize>()? != found.len() {
+        if self.integer::<usize>()? != found.len() {
             return Err(Broken);
         }
         let mut left = found;
@@ -233,11 +295,64 @@ impl<'a> Line<'a> {
         found: &[T],
     ) -> Result<(), Broken> {
         let mut behind = *self;
-        if behind.number::<i64>()? != -1 {
+        if behind.integer::<i64>()? != -1 {
             return self.same_list(found);
         }
         lent.same_list(found)?;
         *self = behind;
         Ok(())
+    }
+}
+
+#[cfg(test)]
+mod tests {
+    use super::*;
+
+    #[test]
+    fn parts_a_number_from_its_line(rt: HostRuntime) {
+        assert_eq!(rt; numeral_length(b"-12 7"), 3);
+        assert_eq!(rt; numeral_length(b"+1"), 0);
+        assert_eq!(rt; number_of::<u8>(b"255"), Ok(255));
+        assert_eq!(rt; number_of::<u8>(b"256"), Err(Broken));
+        let mut line = Line::new(b"*7");
+        assert_eq!(rt; line.skip(b'*'), Ok(()));
+        assert_eq!(rt; line.rest, b"7".as_slice());
+        assert_eq!(rt; line.skip(b'*'), Err(Broken));
+    }
+
+    #[test]
+    fn reads_what_a_type_reads(rt: HostRuntime) {
+        let mut line = Line::new(b"18446744073709551616 -3 7 7 8 x");
+        let mut other = line;
+        assert_eq!(rt; other.first::<i64>(), Err(Broken));
+        assert_eq!(rt; line.first::<u128>(), Ok(18446744073709551616));
+        assert_eq!(rt; line.number::<i64>(), Ok(-3));
+        assert_eq!(rt; line.number::<char>(), Ok('7'));
+        assert_eq!(rt; line.same::<char>('7'), Ok(()));
+        assert_eq!(rt; line.rest, b" 8 x".as_slice());
+        other = line;
+        assert_eq!(rt; other.same::<u8>(7), Err(Broken));
+        assert_eq!(rt; line.number::<u128>(), Ok(8));
+        assert_eq!(rt; line.number::<u128>(), Err(Broken));
+    }
+
+    #[test]
+    fn reads_whole_numbers(rt: HostRuntime) {
+        let mut line = Line::new(b"18446744073709551615 -9223372036854775808 -0 7");
+        let mut other = line;
+        assert_eq!(rt; other.first_integer::<i64>(), Err(Broken));
+        assert_eq!(rt; line.first_integer::<u64>(), Ok(18446744073709551615));
+        assert_eq!(rt; line.integer::<i64>(), Ok(-9223372036854775808));
+        other = line;
+        assert_eq!(rt; other.integer::<u8>(), Err(Broken));
+        assert_eq!(rt; line.integer::<i8>(), Ok(0));
+        other = line;
+        assert_eq!(rt; other.same_integer::<u8>(8), Err(Broken));
+        assert_eq!(rt; line.same_integer::<u8>(7), Ok(()));
+        assert!(rt; line.is_empty());
+        assert_eq!(rt;
+            Line::new(b"18446744073709551616").first_integer::<u128>(),
+            Err(Broken)
+        );
     }
 }

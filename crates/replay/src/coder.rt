@@ -25,10 +25,10 @@ pub fn forward_wht_2d(line: &mut Line, numbers: &mut [i64]) -> Result<(), Stop> 
 
 // Kind 24: the two quantizers, size, depth and the coefficients.
 pub fn quantize_block_tx(line: &mut Line, numbers: &mut [i64]) -> Result<(), Stop> {
-    let dc = DcQuant(line.number()?);
-    let ac = AcQuant(line.number()?);
-    let size = line.number()?;
-    let depth = line.number()?;
+    let dc = DcQuant(line.integer()?);
+    let ac = AcQuant(line.integer()?);
+    let size = line.integer()?;
+    let depth = line.integer()?;
     let lent = *line;
     let count = line.list(numbers)?;
     let coefs = &mut numbers[..count];
@@ -38,8 +38,8 @@ pub fn quantize_block_tx(line: &mut Line, numbers: &mut [i64]) -> Result<(), Sto
 
 // Kind 25: the two quantizers and the coefficients.
 pub fn quantize_block(line: &mut Line, numbers: &mut [i64]) -> Result<(), Stop> {
-    let dc = DcQuant(line.number()?);
-    let ac = AcQuant(line.number()?);
+    let dc = DcQuant(line.integer()?);
+    let ac = AcQuant(line.integer()?);
     let lent = *line;
     let count = line.list(numbers)?;
     let coefs = &mut numbers[..count];
@@ -49,11 +49,11 @@ pub fn quantize_block(line: &mut Line, numbers: &mut [i64]) -> Result<(), Stop> 
 
 // Kind 39: the two quantizers, size, depth, rule and the coefficients.
 pub fn quantize_block_rule(line: &mut Line, numbers: &mut [i64]) -> Result<(), Stop> {
-    let dc = DcQuant(line.number()?);
-    let ac = AcQuant(line.number()?);
-    let size = line.number()?;
-    let depth = line.number()?;
-    let rule = line.number()?;
+    let dc = DcQuant(line.integer()?);
+    let ac = AcQuant(line.integer()?);
+    let size = line.integer()?;
+    let depth = line.integer()?;
+    let rule = line.integer()?;
     let lent = *line;
     let count = line.list(numbers)?;
     let coefs = &mut numbers[..count];
@@ -63,8 +63,8 @@ pub fn quantize_block_rule(line: &mut Line, numbers: &mut [i64]) -> Result<(), S
 
 // Kind 26: the depth.
 pub fn max_codeable_coef(line: &mut Line) -> Result<(), Stop> {
-    let depth = line.number()?;
-    Ok(line.same(quant::max_codeable_coef(depth))?)
+    let depth = line.integer()?;
+    Ok(line.same_integer(quant::max_codeable_coef(depth))?)
 }
 
 // What the quantizer of one number requires.
@@ -82,13 +82,13 @@ fn quantizable(coef: i64, quantizer: AcQuant, most: u64) -> bool
 
 // Kind 36: a coefficient, its quantizer, the size and the limit of a token.
 pub fn quantize(line: &mut Line) -> Result<(), Stop> {
-    let coef = line.number()?;
-    let quantizer = AcQuant(line.number()?);
-    let size = line.number()?;
-    let most = line.number()?;
+    let coef = line.integer()?;
+    let quantizer = AcQuant(line.integer()?);
+    let size = line.integer()?;
+    let most = line.integer()?;
     if quantizable(coef, quantizer, most) {
         let token = quant::quantize(quantizer, coef, size, most, 1);
-        return Ok(line.same(token)?);
+        return Ok(line.same_integer(token)?);
     }
     Err(Stop::Outside)
 }

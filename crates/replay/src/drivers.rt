@@ -4,8 +4,8 @@ use lines::Line;
 
 // Kind 20.
 pub fn inverse_transform_2d(line: &mut Line, numbers: &mut [i64]) -> Result<(), Stop> {
-    let n = line.number()?;
-    let tx_type = line.number()?;
+    let n = line.integer()?;
+    let tx_type = line.integer()?;
     let lossless = line.flag()?;
     let lent = *line;
     let count = line.list(numbers)?;
@@ -16,8 +16,8 @@ pub fn inverse_transform_2d(line: &mut Line, numbers: &mut [i64]) -> Result<(), 
 
 // Kind 21: the same of the reference driver.
 pub fn inverse_transform_2d_reference(line: &mut Line, numbers: &mut [i64]) -> Result<(), Stop> {
-    let n = line.number()?;
-    let tx_type = line.number()?;
+    let n = line.integer()?;
+    let tx_type = line.integer()?;
     let lossless = line.flag()?;
     let lent = *line;
     let count = line.list(numbers)?;

@@ -28,7 +28,7 @@ fn read_behind<I: Read>(input: &mut I, buf: &mut [u8], from: usize) -> usize
 fn kind_of(line: &mut Line) -> usize
     ensures { result < 64 }
 {
-    match line.first::<usize>() {
+    match line.first_integer::<usize>() {
         Ok(kind) if kind < KINDS => kind,
         _ => 0,
     }

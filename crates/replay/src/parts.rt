@@ -17,35 +17,35 @@ const ROUNDED: u64 = 4611686018427387904;
 
 // Kind 1.
 pub fn round2(line: &mut Line) -> Result<(), Stop> {
-    let x = line.number::<i64>()?;
-    let bits = line.number::<u32>()?;
+    let x = line.integer::<i64>()?;
+    let bits = line.integer::<u32>()?;
     let size = magnitude(x);
     if bits < 1 || 30 < bits || ROUNDED < size {
         return Err(Stop::Outside);
     }
-    Ok(line.same(primitives::round2(x, bits))?)
+    Ok(line.same_integer(primitives::round2(x, bits))?)
 }
 
 // Kind 2.
 pub fn brev(line: &mut Line) -> Result<(), Stop> {
-    let bits = line.number::<u32>()?;
-    let x = line.number::<usize>()?;
+    let bits = line.integer::<u32>()?;
+    let x = line.integer::<usize>()?;
     if 5 < bits {
         return Err(Stop::Outside);
     }
-    Ok(line.same(primitives::brev(bits, x))?)
+    Ok(line.same_integer(primitives::brev(bits, x))?)
 }
 
 // Kind 3.
 pub fn cos64(line: &mut Line) -> Result<(), Stop> {
-    let angle = line.number()?;
-    Ok(line.same(primitives::cos64(angle))?)
+    let angle = line.integer()?;
+    Ok(line.same_integer(primitives::cos64(angle))?)
 }
 
 // Kind 4.
 pub fn sin64(line: &mut Line) -> Result<(), Stop> {
-    let angle = line.number()?;
-    Ok(line.same(primitives::sin64(angle))?)
+    let angle = line.integer()?;
+    Ok(line.same_integer(primitives::sin64(angle))?)
 }
 
 // Place k lies below `count`, and the number there within `most`.
@@ -75,9 +75,9 @@ fn both_near(list: &[i64], count: usize, a: usize, b: usize, most: u64) -> bool
 
 // Kind 5: B on T.
 pub fn butterfly(line: &mut Line) -> Result<(), Stop> {
-    let a = line.number()?;
-    let b = line.number()?;
-    let angle = line.number()?;
+    let a = line.integer()?;
+    let b = line.integer()?;
+    let angle = line.integer()?;
     let flip = line.flag()?;
     let lent = *line;
     let mut t = [0i64; 32];
@@ -91,8 +91,8 @@ pub fn butterfly(line: &mut Line) -> Result<(), Stop> {
 
 // Kind 6: H on T.
 pub fn hadamard(line: &mut Line) -> Result<(), Stop> {
-    let a = line.number()?;
-    let b = line.number()?;
+    let a = line.integer()?;
+    let b = line.integer()?;
     let flip = line.flag()?;
     let lent = *line;
     let mut t = [0i64; 32];
@@ -106,9 +106,9 @@ pub fn hadamard(line: &mut Line) -> Result<(), Stop> {
 
 // Kind 7: SB from T, of which the first half counts, into S.
 pub fn sb(line: &mut Line) -> Result<(), Stop> {
-    let a = line.number()?;
-    let b = line.number()?;
-    let angle = line.number()?;
+    let a = line.integer()?;
+    let b = line.integer()?;
+    let angle = line.integer()?;
     let flip = line.flag()?;
     let mut t = [0i64; 32];
     line.whole_list(&mut t)?;
@@ -124,8 +124,8 @@ pub fn sb(line: &mut Line) -> Result<(), Stop> {
 
 // Kind 8: SH from S into T.
 pub fn sh(line: &mut Line) -> Result<(), Stop> {
-    let a = line.number()?;
-    let b = line.number()?;
+    let a = line.integer()?;
+    let b = line.integer()?;
     let lent = *line;
     let mut t = [0i64; 32];
     line.whole_list(&mut t)?;

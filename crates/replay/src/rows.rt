@@ -27,7 +27,7 @@ fn all_near(list: &[i64], count: usize, most: u64) -> bool
 
 // Kind 10: one row through the recursive DCT.
 pub fn inverse_dct(line: &mut Line) -> Result<(), Stop> {
-    let bits = line.number::<u32>()?;
+    let bits = line.integer::<u32>()?;
     let lent = *line;
     let mut t = [0i64; 32];
     line.whole_list(&mut t)?;
@@ -44,7 +44,7 @@ pub fn inverse_dct(line: &mut Line) -> Result<(), Stop> {
 
 // Kind 11: one row through the ADST.
 pub fn inverse_adst(line: &mut Line) -> Result<(), Stop> {
-    let bits = line.number::<u32>()?;
+    let bits = line.integer::<u32>()?;
     let lent = *line;
     let mut t = [0i64; 32];
     line.whole_list(&mut t)?;
@@ -60,7 +60,7 @@ pub fn inverse_adst(line: &mut Line) -> Result<(), Stop> {
 
 // Kind 12: four numbers through the WHT.
 pub fn inverse_wht(line: &mut Line) -> Result<(), Stop> {
-    let bits = line.number::<u32>()?;
+    let bits = line.integer::<u32>()?;
     let lent = *line;
     let mut t = [MARK; 32];
     line.whole_list(&mut t[..4])?;

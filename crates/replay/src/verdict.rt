@@ -38,6 +38,6 @@ impl Verdict {
 
 // The answer and the list are what the line has next.
 pub fn answered(line: &mut Line, answer: Answer, lent: Line, list: &[i64]) -> Result<(), Stop> {
-    line.same(answers::code(answer))?;
+    line.same_integer(answers::code(answer))?;
     Ok(line.same_lent(lent, list)?)
 }

@@ -24,17 +24,17 @@ struct Block {
 
 impl Block {
     fn read(line: &mut Line) -> Result<Block, Broken> {
-        let x = line.number()?;
-        let y = line.number()?;
-        let size = line.number()?;
-        let tx_type = line.number()?;
+        let x = line.integer()?;
+        let y = line.integer()?;
+        let size = line.integer()?;
+        let tx_type = line.integer()?;
         let lossless = line.flag()?;
-        let depth = line.number()?;
-        let dc = line.number()?;
-        let ac = line.number()?;
-        let width = line.number()?;
-        let height = line.number()?;
-        let stride = line.number()?;
+        let depth = line.integer()?;
+        let dc = line.integer()?;
+        let ac = line.integer()?;
+        let width = line.integer()?;
+        let height = line.integer()?;
+        let stride = line.integer()?;
         Ok(Block {
             x,
             y,
@@ -108,7 +108,7 @@ pub fn reconstruct_block(line: &mut Line) -> Result<(), Broken> {
     let mut samples = [0u16; SAMPLES];
     let count = line.list(&mut samples)?;
     let answer = block.reconstruct(&tokens[..token_count], &mut samples[..count]);
-    line.same(answers::code(answer))?;
+    line.same_integer(answers::code(answer))?;
     line.same_lent(lent, &samples[..count])
 }
 
@@ -137,7 +137,7 @@ pub fn reconstruct_block_report(line: &mut Line) -> Result<(), Broken> {
         &mut counts,
         &mut sums,
     );
-    line.same(answers::code(answer))?;
+    line.same_integer(answers::code(answer))?;
     line.same_lent(lent_samples, &samples[..count])?;
     line.same_lent(lent_counts, &counts)?;
     line.same_lent(lent_sums, &sums.map(signed))
@@ -157,8 +157,8 @@ fn same_run(
         }
         Err(refusal) => (u32::from(refusal), 0, 0, 0),
     };
-    line.same(number)?;
-    line.same(touched)?;
+    line.same_integer(number)?;
+    line.same_integer(touched)?;
     line.same_list(answers.get(..count).ok_or(Broken)?)?;
     line.same_list(samples.get(..area).ok_or(Broken)?)
 }

@@ -5,11 +5,11 @@ use lines::{Broken, Line};
 
 // n and the block, read into `numbers`; Broken where the line has something else than was expected.
 pub fn forward_dct_2d(line: &mut Line, numbers: &mut [i64]) -> Result<(), Broken> {
-    let n = line.number()?;
+    let n = line.integer()?;
     let lent = *line;
     let count = line.list(numbers)?;
     let block = &mut numbers[..count];
     let answer = fwd_dct::forward_dct_2d(block, n);
-    line.same(answers::code(answer))?;
+    line.same_integer(answers::code(answer))?;
     line.same_lent(lent, block)
 }

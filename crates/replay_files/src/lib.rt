@@ -16,9 +16,9 @@ fn token(x: i64) -> i32 {
 
 // The longest list of samples, the most records, the most tokens and the longest buffer have room.
 pub fn vbk_write(line: &mut Line) -> Result<(), Broken> {
-    let depth = line.number()?;
-    let width = two(line.number()?);
-    let height = two(line.number()?);
+    let depth = line.integer()?;
+    let width = two(line.integer()?);
+    let height = two(line.integer()?);
     let mut samples = [0u16; 4200];
     let sample_count = line.list(&mut samples)?;
     let mut xs = [0u16; 100];
@@ -62,7 +62,7 @@ pub fn vbk_write(line: &mut Line) -> Result<(), Broken> {
         Ok(size) => (0, size),
         Err(refusal) => (u32::from(refusal), 0),
     };
-    line.same(number)?;
-    line.same(size)?;
+    line.same_integer(number)?;
+    line.same_integer(size)?;
     line.same_lent(lent, &out[..length])
 }

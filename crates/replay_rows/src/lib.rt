@@ -8,8 +8,8 @@ use quant::{AcQuant, DcQuant};
 
 // A summary stands in a line as a list of one number.
 fn read_summary(line: &mut Line) -> Result<u32, Broken> {
-    line.same(1u32)?;
-    line.number()
+    line.same_integer(1u32)?;
+    line.integer()
 }
 
 // A row as a number, -1 where there is none.
@@ -19,16 +19,16 @@ fn number(row: Option<u32>) -> i64 {
 
 // The outcome is this answer, this summary, and what the summary says of itself.
 fn same_rows(line: &mut Line, lent: Line, answer: Answer, summary: u32) -> Result<(), Broken> {
-    line.same(answers::code(answer))?;
-    line.same(summary::row_count(summary))?;
-    line.same(number(summary::first_row(summary)))?;
-    line.same(number(summary::last_row(summary)))?;
+    line.same_integer(answers::code(answer))?;
+    line.same_integer(summary::row_count(summary))?;
+    line.same_integer(number(summary::first_row(summary)))?;
+    line.same_integer(number(summary::last_row(summary)))?;
     line.same_lent(lent, &[summary])
 }
 
 // Kind 32: n, the block, and the number in the room for the summary, which stays under a refusal.
 pub fn row_summary(line: &mut Line, numbers: &mut [i64]) -> Result<(), Broken> {
-    let n = line.number()?;
+    let n = line.integer()?;
     let count = line.list(numbers)?;
     let lent = *line;
     let given = read_summary(line)?;
@@ -40,12 +40,12 @@ pub fn row_summary(line: &mut Line, numbers: &mut [i64]) -> Result<(), Broken> {
 
 // Kind 33: size, place, token, the two quantizers, depth, the block and its summary.
 pub fn replace_token(line: &mut Line, numbers: &mut [i64]) -> Result<(), Broken> {
-    let size = line.number()?;
-    let place = line.number()?;
-    let token = line.number()?;
-    let dc = line.number()?;
-    let ac = line.number()?;
-    let depth = line.number()?;
+    let size = line.integer()?;
+    let place = line.integer()?;
+    let token = line.integer()?;
+    let dc = line.integer()?;
+    let ac = line.integer()?;
+    let depth = line.integer()?;
     let lent_block = *line;
     let count = line.list(numbers)?;
     let lent_rows = *line;
@@ -61,15 +61,15 @@ pub fn replace_token(line: &mut Line, numbers: &mut [i64]) -> Result<(), Broken>
         AcQuant(ac),
         depth,
     );
-    line.same(answers::code(answer))?;
+    line.same_integer(answers::code(answer))?;
     line.same_lent(lent_block, block)?;
     line.same_lent(lent_rows, &[rows])
 }
 
 // Kind 34: n, type, lossless and the block.
 pub fn inverse_transform_2d_rows(line: &mut Line, numbers: &mut [i64]) -> Result<(), Broken> {
-    let n = line.number()?;
-    let tx_type = line.number()?;
+    let n = line.integer()?;
+    let tx_type = line.integer()?;
     let lossless = line.flag()?;
     let lent = *line;
     let count = line.list(numbers)?;
@@ -78,7 +78,7 @@ pub fn inverse_transform_2d_rows(line: &mut Line, numbers: &mut [i64]) -> Result
         Ok(rows) => (0, rows.number()),
         Err(refusal) => (u32::from(refusal), 0),
     };
-    line.same(answer)?;
-    line.same(rows)?;
+    line.same_integer(answer)?;
+    line.same_integer(rows)?;
     line.same_lent(lent, block)
 }
